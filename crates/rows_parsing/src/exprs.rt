@@ -1,5 +1,6 @@
 //! What expressions and items are read as.
 
+use crate::shown_syntax;
 use rows_lines::{Trouble, push_row, push_title};
 use smk_base::{List, Text};
 use smk_lex::lex;
@@ -16,60 +17,51 @@ fn read(alloc: Global, source: &str) -> Result<List<ItemForm>, ParseFault> {
     items(alloc, &mut Cursor::new(symbols.as_slice()))
 }
 
-/// A copy of the first value, as it is written for debugging.
+/// A copy of the first value, with sums in brackets.
 fn first(alloc: Global, found: &[ItemForm]) -> Result<String, Trouble> {
-    match found {
-        [first, ..] => {
-            let value = copy(alloc, &first.value)?;
-            Ok(format!(in alloc; "{value:?}")?)
-        }
-        [] => Ok(String::new(alloc)),
+    let mut text = String::new(alloc);
+    if let [first, ..] = found {
+        shown_syntax::expr(&mut text, &copy(alloc, &first.value)?)?;
     }
+    Ok(text)
+}
+
+/// The fault and its place.
+fn fault_text(alloc: Global, fault: ParseFault) -> Result<String, Trouble> {
+    let (word, at) = match fault {
+        ParseFault::Unexpected(at) => ("unexpected", at),
+        ParseFault::Unsupported(at) => ("unsupported", at),
+        ParseFault::Doubled(at) => ("doubled", at),
+        ParseFault::OutOfMemory => return Err(Trouble::OutOfMemory),
+    };
+    Ok(format!(in alloc; "{word} {at}")?)
 }
 
 /// The first item of a source, or its first fault.
 fn shown(alloc: Global, source: &str) -> Result<String, Trouble> {
     match read(alloc, source) {
         Ok(found) => first(alloc, found.as_slice()),
-        Err(fault) => Ok(format!(in alloc; "{fault:?}")?),
+        Err(fault) => fault_text(alloc, fault),
     }
 }
 
 /// Expressions of each form.
 fn push_forms(alloc: Global, text: &mut String) -> Result<(), AllocError> {
     let table = [
-        ("\"a\" r'b' 1.5\n", "Word(Text { text: \"ab1.5\" })"),
-        ("12,\n", "Number(12)"),
-        ("(True)\n", "Truth(true)"),
-        ("c\n", "Name(Text { text: \"c\" })"),
-        (
-            "config['a']['b']\n",
-            "Config(List { elements: [Text { text: \"a\" }, Text { text: \"b\" }] })",
-        ),
-        (
-            "rules.up.output[2]\n",
-            "Outputs(Text { text: \"up\" }, At(2))",
-        ),
-        (
-            "[1, [],]\n",
-            "Many(List { elements: [Number(1), Many(List { elements: [] })] })",
-        ),
-        (
-            "1 + (2 + 3)\n",
-            "Sum(List { elements: [Number(1), Sum(List { elements: [Number(2), Number(3)] })] })",
-        ),
-        (
-            "temp(c)\n",
-            "Flagged(Text { text: \"temp\" }, Boxed { inner: Name(Text { text: \"c\" }) })",
-        ),
+        ("\"a\" r'b' 1.5\n", "\"ab1.5\""),
+        ("12,\n", "12"),
+        ("(True)\n", "True"),
+        ("c\n", "c"),
+        ("config['a']['b']\n", "config[\"a\"][\"b\"]"),
+        ("rules.up.output[2]\n", "rules.up.output[2]"),
+        ("[1, [],]\n", "[1, []]"),
+        ("1 + (2 + 3)\n", "(1 + (2 + 3))"),
+        ("temp(c)\n", "temp(c)"),
         (
             "from_checkpoint(c, 'l', 'w')\n",
-            "FromCheckpoint(Text { text: \"c\" }, Text { text: \"l\" }, Text { text: \"w\" })",
+            "from_checkpoint(c, \"l\", \"w\")",
         ),
-        (
-            "expand(c, zip, zip=1,)\n",
-            "Expand(ExpandForm { pattern: Boxed { inner: Name(Text { text: \"c\" }) }, zip: true, named: List { elements: [ItemForm { name: Text { text: \"zip\" }, value: Number(1) }] } })",
-        ),
+        ("expand(c, zip, zip=1,)\n", "expand(c, zip, zip=1)"),
     ];
     for (source, wanted) in table {
         push_row(text, source, &shown(alloc, source), wanted)?;
@@ -80,20 +72,20 @@ fn push_forms(alloc: Global, text: &mut String) -> Result<(), AllocError> {
 /// Items with a fault.
 fn push_faults(alloc: Global, text: &mut String) -> Result<(), AllocError> {
     let table = [
-        ("x, f(\"y\")\n", "Unsupported(3)"),
-        ("\"x\" f(\"y\")\n", "Unsupported(4)"),
-        ("config.get(\"a\")\n", "Unsupported(0)"),
-        ("\"a\" if b else c\n", "Unsupported(4)"),
-        ("[lambda x: x]\n", "Unsupported(1)"),
-        ("k=\"a\", \"b\"\n", "Unexpected(7)"),
-        ("k=\"a\", k=\"b\"\n", "Doubled(7)"),
-        ("expand(\"a\", x=1, x=2)\n", "Doubled(17)"),
-        ("expand(\"a\", \"b\")\n", "Unexpected(12)"),
-        ("rules.a.input\n", "Unexpected(8)"),
-        ("from_checkpoint(c, \"a\")\n", "Unexpected(22)"),
-        ("(\"a\"\n", "Unexpected(5)"),
-        ("1 +\n", "Unexpected(3)"),
-        ("\n", "Unexpected(0)"),
+        ("x, f(\"y\")\n", "unsupported 3"),
+        ("\"x\" f(\"y\")\n", "unsupported 4"),
+        ("config.get(\"a\")\n", "unsupported 0"),
+        ("\"a\" if b else c\n", "unsupported 4"),
+        ("[lambda x: x]\n", "unsupported 1"),
+        ("k=\"a\", \"b\"\n", "unexpected 7"),
+        ("k=\"a\", k=\"b\"\n", "doubled 7"),
+        ("expand(\"a\", x=1, x=2)\n", "doubled 17"),
+        ("expand(\"a\", \"b\")\n", "unexpected 12"),
+        ("rules.a.input\n", "unexpected 8"),
+        ("from_checkpoint(c, \"a\")\n", "unexpected 22"),
+        ("(\"a\"\n", "unexpected 5"),
+        ("1 +\n", "unexpected 3"),
+        ("\n", "unexpected 0"),
     ];
     for (source, wanted) in table {
         push_row(text, source, &shown(alloc, source), wanted)?;
@@ -117,7 +109,9 @@ fn parts(alloc: Global, source: &str) -> Result<String, Trouble> {
     };
     let symbols = symbols(alloc, source, tokens.as_slice())?;
     let (word, count, alone, value) = parts_in(alloc, &mut Cursor::new(symbols.as_slice()))?;
-    Ok(format!(in alloc; "{} {count} {} {value:?}", word.as_str(), alone.as_str())?)
+    let mut text = format!(in alloc; "{} {count} {} ", word.as_str(), alone.as_str())?;
+    shown_syntax::expr(&mut text, &value)?;
+    Ok(text)
 }
 
 /// Adds the rows on expressions.
@@ -128,7 +122,7 @@ pub fn push_rows(alloc: Global, text: &mut String) -> Result<(), AllocError> {
         text,
         "a 1 't' 2 + b\n",
         &parts(alloc, "a 1 't' 2 + b\n"),
-        "a 1 t Sum(List { elements: [Number(2), Name(Text { text: \"b\" })] })",
+        "a 1 t (2 + b)",
     )?;
     push_title(text, "the first fault of items")?;
     push_faults(alloc, text)

@@ -8,7 +8,7 @@ use smk_base::{
 use std::alloc::{AllocError, Global};
 
 /// A type that holds itself, in a list and in a box.
-#[derive(Debug, Drop)]
+#[derive(Drop)]
 enum Expression {
     Number(u64),
     Greatest(List<Expression>),
@@ -101,7 +101,11 @@ fn place_copy(alloc: Global) -> Result<String, Trouble> {
 /// What a copy of a list of pairs is.
 fn pairs_copy(alloc: Global) -> Result<String, Trouble> {
     let copy = pairs(alloc)?.copied(alloc)?;
-    Ok(format!(in alloc; "{copy:?}")?)
+    let mut text = String::new(alloc);
+    for pair in copy.as_slice() {
+        write!(text, "{}={};", pair.name.as_str(), pair.value.as_str())?;
+    }
+    Ok(text)
 }
 
 /// What a copy of an amount in a box is.
@@ -110,10 +114,25 @@ fn amount_copy(alloc: Global) -> Result<String, Trouble> {
     Ok(format!(in alloc; "{}", copy.get().count)?)
 }
 
+/// The entries, each with its bytes if it is a file.
+fn entries_text(alloc: Global, entries: &[TreeEntry]) -> Result<String, Trouble> {
+    let mut text = String::new(alloc);
+    for entry in entries {
+        text.push_str(entry.name.as_str())?;
+        if let Some(bytes) = &entry.bytes {
+            write!(text, " {:?}", bytes.as_slice())?;
+        }
+        text.push_str(";")?;
+    }
+    Ok(text)
+}
+
 /// What a copy of a folder is.
 fn folder_copy(alloc: Global) -> Result<String, Trouble> {
-    let copy = folder(alloc)?.copied(alloc)?;
-    Ok(format!(in alloc; "{copy:?}")?)
+    match folder(alloc)?.copied(alloc)? {
+        Tree::File(_) => Ok(String::from_str(alloc, "a file")?),
+        Tree::Folder(entries) => entries_text(alloc, entries.as_slice()),
+    }
 }
 
 /// A copy of each kind of value.
@@ -130,7 +149,7 @@ fn push_copies(alloc: Global, text: &mut String) -> Result<(), AllocError> {
         text,
         "a copy of a list of pairs",
         &pairs_copy(alloc),
-        "List { elements: [Pair { name: Text { text: \"sample\" }, value: Text { text: \"7\" } }] }",
+        "sample=7;",
     )?;
     push_row(
         text,
@@ -142,7 +161,7 @@ fn push_copies(alloc: Global, text: &mut String) -> Result<(), AllocError> {
         text,
         "a copy of a folder",
         &folder_copy(alloc),
-        "Folder(List { elements: [TreeEntry { name: PathText { text: \"x/y\" }, bytes: Some(Bytes { bytes: [104, 105] }) }] })",
+        "x/y [104, 105];",
     )
 }
 

@@ -79,7 +79,7 @@ fn from_checkpoint(
 
 /// An expression; sums in brackets.
 #[cycle(shown)]
-fn expr(text: &mut String, value: &Expr) -> Result<(), AllocError> {
+pub fn expr(text: &mut String, value: &Expr) -> Result<(), AllocError> {
     match value {
         Expr::Word(word) => quoted(text, word),
         Expr::Number(n) => write!(text, "{n}"),

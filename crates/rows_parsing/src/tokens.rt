@@ -1,7 +1,7 @@
 //! What sources are cut into.
 
 use rows_lines::{Trouble, push_row, push_title};
-use smk_lex::{Token, TokenKind, lex};
+use smk_lex::{LexFault, Token, TokenKind, lex};
 use smk_parse_expr::{Cursor, symbols, text as text_in};
 use std::alloc::{AllocError, Global};
 use std::str;
@@ -43,11 +43,22 @@ fn shown(alloc: Global, source: &[u8], tokens: &[Token]) -> Result<String, Alloc
     Ok(text)
 }
 
+/// The fault and its place.
+fn fault_text(alloc: Global, fault: LexFault) -> Result<String, Trouble> {
+    let (words, at) = match fault {
+        LexFault::BadIndent(at) => ("bad indent", at),
+        LexFault::OpenText(at) => ("open text", at),
+        LexFault::BadByte(at) => ("bad byte", at),
+        LexFault::OutOfMemory => return Err(Trouble::OutOfMemory),
+    };
+    Ok(format!(in alloc; "{words} {at}")?)
+}
+
 /// The tokens of the source, or its first fault.
 fn cut(alloc: Global, source: &[u8]) -> Result<String, Trouble> {
     match lex(alloc, source) {
         Ok(tokens) => Ok(shown(alloc, source, tokens.as_slice())?),
-        Err(fault) => Ok(format!(in alloc; "{fault:?}")?),
+        Err(fault) => fault_text(alloc, fault),
     }
 }
 
@@ -95,21 +106,21 @@ fn push_faults(alloc: Global, text: &mut String) -> Result<(), AllocError> {
     let table = [
         (
             "rule a:\n    input: \"x\"\n  output: \"y\"\n",
-            "BadIndent(23)",
+            "bad indent 23",
         ),
-        ("a:\n\tb\n  c", "BadIndent(6)"),
-        ("a:\n  b\n\tc", "BadIndent(7)"),
-        ("x = \"a\n", "OpenText(4)"),
-        ("x = r\"a", "OpenText(4)"),
-        ("x = \"\"\"a\"\"", "OpenText(4)"),
-        ("x = \"a\\", "OpenText(4)"),
-        ("x = \"\\x41\"", "BadByte(5)"),
-        ("x = \"\\0\"", "BadByte(5)"),
-        ("x = {", "BadByte(4)"),
-        ("x = -", "BadByte(4)"),
-        ("a\rb", "BadByte(1)"),
-        ("a\x0bb", "BadByte(1)"),
-        ("a = ä", "BadByte(4)"),
+        ("a:\n\tb\n  c", "bad indent 6"),
+        ("a:\n  b\n\tc", "bad indent 7"),
+        ("x = \"a\n", "open text 4"),
+        ("x = r\"a", "open text 4"),
+        ("x = \"\"\"a\"\"", "open text 4"),
+        ("x = \"a\\", "open text 4"),
+        ("x = \"\\x41\"", "bad byte 5"),
+        ("x = \"\\0\"", "bad byte 5"),
+        ("x = {", "bad byte 4"),
+        ("x = -", "bad byte 4"),
+        ("a\rb", "bad byte 1"),
+        ("a\x0bb", "bad byte 1"),
+        ("a = ä", "bad byte 4"),
     ];
     for (source, wanted) in table {
         push_row(text, source, &cut(alloc, source.as_bytes()), wanted)?;
@@ -120,16 +131,16 @@ fn push_faults(alloc: Global, text: &mut String) -> Result<(), AllocError> {
 /// Sources that aren't text.
 fn push_bytes(alloc: Global, text: &mut String) -> Result<(), AllocError> {
     let table: [(&str, &[u8], &str); 3] = [
-        ("a byte that is no text", b"\xff\n", "BadByte(0)"),
+        ("a byte that is no text", b"\xff\n", "bad byte 0"),
         (
             "a byte that is no text in an open text",
             b"\"\xff",
-            "OpenText(0)",
+            "open text 0",
         ),
         (
             "a byte that is no text before a sign that is none",
             b"\"\xff\" ?",
-            "BadByte(1)",
+            "bad byte 1",
         ),
     ];
     for (name, source, wanted) in table {

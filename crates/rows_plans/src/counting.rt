@@ -6,7 +6,7 @@ use std::alloc::Global;
 use std::sync::atomic::{AtomicU64, Ordering};
 
 /// How often it was asked, and how often about the job that was closed and the one that reads all.
-#[derive(Debug, Drop)]
+#[derive(Drop)]
 pub struct Counting {
     pub asked: AtomicU64,
     pub first: AtomicU64,

@@ -1,7 +1,7 @@
 //! Workflows, printed shortly.
 
 use smk_base::Text;
-use smk_flow::{Clause, InPart, OutPart, Rule, RulePart, Workflow};
+use smk_flow::{Clause, Flag, InPart, OutPart, Rule, RulePart, Workflow};
 use std::alloc::{AllocError, Global};
 
 /// Adds the texts, each behind a blank.
@@ -28,11 +28,23 @@ fn push_input(text: &mut String, item: &InPart) -> Result<(), AllocError> {
     text.push_str("\n")
 }
 
-/// Adds the line of an item of outputs.
+/// The word that a workflow file has for the flag.
+fn flag_word(flag: Flag) -> &'static str {
+    match flag {
+        Flag::Temp => "temp",
+        Flag::Protected => "protected",
+        Flag::Folder => "directory",
+    }
+}
+
+/// Adds the line of an item of outputs, each with its flags behind it.
 fn push_output(text: &mut String, item: &OutPart) -> Result<(), AllocError> {
     write!(text, "  out {}:", item.name.as_str())?;
     for out in item.outs.as_slice() {
-        write!(text, " {} {:?}", out.text.as_str(), out.flags)?;
+        write!(text, " {}", out.text.as_str())?;
+        for flag in out.flags.as_slice() {
+            write!(text, " {}", flag_word(*flag))?;
+        }
     }
     text.push_str("\n")
 }

@@ -44,7 +44,7 @@ fn told_of_one(alloc: Global) -> Result<String, Trouble> {
 }
 
 // A judge that notes whether it judges the jobs with the commands `first` and `last` at the same time.
-#[derive(Debug, Drop)]
+#[derive(Drop)]
 struct Meeting {
     first: AtomicBool,
     last: AtomicBool,

@@ -2,7 +2,7 @@ use smk_base::{OutOfMemory, PathText, Text};
 use std::alloc::{AllocError, AllocFailed};
 
 /// Why the sources couldn't be looked at.
-#[derive(Debug, Drop)]
+#[derive(Drop)]
 pub enum SightFault {
     /// There would be so many paths, more than 100,000, to look at.
     TooManyPaths(u64),
@@ -12,7 +12,7 @@ pub enum SightFault {
 }
 
 /// Why targets call for no jobs.
-#[derive(Debug, Drop)]
+#[derive(Drop)]
 pub enum ChainFault {
     /// No rule has the path as an output.
     NoRule {

@@ -19,7 +19,7 @@ use std::alloc::Global;
 use std::collections::BTreeMap;
 
 /// What a look at a path tells: whether it is a source, and whether a folder is there in which sources may be.
-#[derive(Clone, Copy, Debug)]
+#[derive(Clone, Copy)]
 pub(crate) struct Sighted {
     pub(crate) source: bool,
     pub(crate) folder: bool,

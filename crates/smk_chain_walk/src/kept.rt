@@ -9,7 +9,7 @@ use std::alloc::Global;
 use std::collections::BTreeMap;
 
 /// The heights of the paths that are done with.
-#[derive(Debug, Drop)]
+#[derive(Drop)]
 pub(crate) struct Heights {
     kept: BTreeMap<String, u32>,
 }

@@ -27,7 +27,7 @@ use std::alloc::Global;
 use std::collections::BTreeSet;
 
 /// The jobs so far, in plan order, with what makes each path that is done.
-#[derive(Debug, Drop)]
+#[derive(Drop)]
 pub(crate) struct Reached {
     /// What makes each path that is done, in the order in which they were done.
     pub(crate) done: IndexMap<String, Maker>,

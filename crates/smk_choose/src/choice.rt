@@ -2,14 +2,14 @@ use smk_base::Text;
 use smk_pattern::Binding;
 
 /// The rule of the first candidate, and its first want that isn't available.
-#[derive(Debug, Drop)]
+#[derive(Drop)]
 pub struct Lack {
     pub rule: u32,
     pub wanted: Text,
 }
 
 /// What makes a path, with the job as its rule and a value for each of its wildcards.
-#[derive(Debug, Drop)]
+#[derive(Drop)]
 pub enum Chosen {
     Source,
     Make(Making),
@@ -20,7 +20,7 @@ pub enum Chosen {
 }
 
 /// A rule, by its place in the workflow, and a value for each of its wildcards, by name.
-#[derive(Debug, Drop)]
+#[derive(Drop)]
 pub struct Making {
     pub rule: u32,
     pub binding: Binding,

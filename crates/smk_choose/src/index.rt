@@ -15,7 +15,7 @@ use std::collections::BTreeMap;
 
 /// The numbers of the rules that have an output without wildcards, by its text, and of those that have an output with one; each list in
 /// order, with no number twice.
-#[derive(Debug, Drop)]
+#[derive(Drop)]
 pub(crate) struct Index {
     pub(crate) texts: BTreeMap<String, List<u32>>,
     pub(crate) wild: List<u32>,
@@ -23,7 +23,7 @@ pub(crate) struct Index {
 
 /// What is read of the rules of a workflow before paths are looked at: the patterns of each, the numbers of those that make directories, and
 /// which rules have to be tried for a path. Made once, it serves any number of tables and paths.
-#[derive(Debug, Drop)]
+#[derive(Drop)]
 pub struct Readings {
     pub(crate) rules: Vec<Reading>,
     pub(crate) folders: List<u32>,

@@ -24,7 +24,7 @@ use std::alloc::Global;
 use std::collections::BTreeMap;
 
 /// Paths with their numbers, and for the first of them what may make them.
-#[derive(Debug, Drop)]
+#[derive(Drop)]
 pub(crate) struct Reach {
     pub(crate) numbers: BTreeMap<String, usize>,
     pub(crate) paths: Vec<PathText>,

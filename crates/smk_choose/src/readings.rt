@@ -18,7 +18,7 @@ use std::alloc::Global;
 
 /// The patterns of the directories that a checkpoint makes, none for other rules; and those of what a rule's jobs want: of the inputs
 /// that are written out, then of the directories that are gathered from.
-#[derive(Debug, Drop)]
+#[derive(Drop)]
 pub(crate) struct Reading {
     pub(crate) folders: List<Pattern>,
     pub(crate) wants: List<Pattern>,

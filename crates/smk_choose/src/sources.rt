@@ -7,14 +7,14 @@ use std::alloc::Global;
 use std::collections::BTreeMap;
 
 /// Whether a path is a source, and whether it holds one.
-#[derive(Clone, Copy, Debug, PartialEq, Eq)]
+#[derive(Clone, Copy, PartialEq, Eq)]
 pub struct Standing {
     pub source: bool,
     pub holds: bool,
 }
 
 /// What is known of some paths; any other path is no source and holds none.
-#[derive(Debug, Drop)]
+#[derive(Drop)]
 pub struct Sources {
     alloc: Global,
     standings: BTreeMap<String, Standing>,

@@ -20,7 +20,7 @@ use std::alloc::Global;
 use std::collections::BTreeMap;
 
 /// The choices for some paths and for what their candidates want, 200 levels deep.
-#[derive(Debug, Drop)]
+#[derive(Drop)]
 pub struct Choices {
     chosen: BTreeMap<String, Chosen>,
 }

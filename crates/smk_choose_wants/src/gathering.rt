@@ -18,7 +18,7 @@ use smk_pattern::{Binding, Pattern, fits};
 use std::alloc::Global;
 
 // The patterns of what is gathered.
-#[derive(Debug, Drop)]
+#[derive(Drop)]
 struct Patterns {
     listed: Pattern,
     wanted: Pattern,

@@ -12,7 +12,7 @@ use std::alloc::Global;
 use std::collections::BTreeMap;
 
 /// Where the listing of each directory stands among some listings, so that it is found without going through them.
-#[derive(Debug, Drop)]
+#[derive(Drop)]
 pub struct Places {
     numbers: BTreeMap<String, usize>,
 }

@@ -39,13 +39,13 @@ use Rattle.smk_cli_calls.proofs.Driving.{rules_are}
 use Rattle.smk_cli_calls.specs.Serving.{Went, Refused, Stopped, WasDriven, Worked, Drove, settings_of}
 use Rattle.smk_cli_calls.specs.Locking.{Stood, Taken, Unmade, Untaken}
 use Rattle.smk_cli_calls.specs.Whole.{AsksFor, HasRun, Heeded, IsRefusal, IsToServe, Unasked, Unheeded}
-use Rattle.smk_exit.specs.Exit.{RunLeavesAllClean}
+use Rattle.smk_safe.specs.Exit.{RunLeavesAllClean}
 use Rattle.smk_drive.specs.Moments.{Rules}
 use Rattle.smk_drive_first.specs.Opening.{AreRules}
-use Rattle.smk_laws_lock.specs.Heeding.{IsSameButLock}
-use Rattle.smk_laws_lock.proofs.Heeding.{last_plans_heed_no_lock}
-use Rattle.smk_laws_again.specs.Again.{HasStartedNone, IsFirstPlan, StartsNone}
-use Rattle.smk_laws_again.proofs.Quiet.{driven_starts_none}
+use Rattle.smk_laws_refusing.specs.Heeding.{IsSameButLock}
+use Rattle.smk_laws_refusing.proofs.Heeding.{last_plans_heed_no_lock}
+use Rattle.smk_clean.specs.NothingStarts.{HasStartedNone, IsFirstPlan, StartsNone}
+use Rattle.smk_clean.proofs.Quiet.{driven_starts_none}
 use Rattle.smk_clean.specs.Again.{HasNoneLeft, NextCallStartsNothing, StartsNothing, turns_made, turns_went, untold_went}
 use Rattle.smk_clean.proofs.Asking.{asked_same}
 use Rattle.smk_clean.proofs.Ending.{DrivenEnds, ended_well, none_left}

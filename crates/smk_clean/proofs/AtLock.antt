@@ -12,7 +12,7 @@ use Rattle.smk_world.proofs.Devices.{acted_as, acted_then}
 use Rattle.smk_keep_lock.specs.Locking.{HasTaken, HasReleased}
 use Rattle.smk_run.proofs.Calls.{EachCall, cut_each, done_each}
 use Rattle.smk_run.proofs.Ends.{acted_ended}
-use Rattle.smk_laws_lock.specs.Parts.{OnLock}
+use Rattle.smk_laws_refusing.specs.Parts.{OnLock}
 use Rattle.smk_laws_moments.proofs.QuietCalls.{IsQuiet}
 use Rattle.smk_laws_refusing.specs.Leaving.{LeavesAllBut}
 use Rattle.smk_laws_refusing.proofs.LeftAlone.{leaves_more, leaves_then, looks_leave, quiet_leaves}

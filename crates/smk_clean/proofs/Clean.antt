@@ -53,14 +53,14 @@ use Rattle.smk_plan_preview.specs.declared.previewing.Previewed.{Previewed}
 use Rattle.smk_plan_preview.specs.Previewing.{plan_of, rules_for}
 use Rattle.smk_cli_calls.specs.Serving.{settings_of}
 use Rattle.smk_cli_calls.specs.Whole.{IsToServe}
-use Rattle.smk_laws_lock.specs.Heeding.{IsSameButLock}
-use Rattle.smk_laws_lock.proofs.Heeding.{last_plans_heed_no_lock, on_both, same_back}
+use Rattle.smk_laws_refusing.specs.Heeding.{IsSameButLock}
+use Rattle.smk_laws_refusing.proofs.Heeding.{last_plans_heed_no_lock, on_both, same_back}
 use Rattle.smk_safe.specs.Planned.{IsPlain, IsFit}
 use Rattle.smk_safe.specs.Safe.{IsSafeRun}
 use Rattle.smk_safe.proofs.Images.{sources_now}
 use Rattle.smk_safe.proofs.Planned.{all_shut}
 use Rattle.smk_safe.proofs.Stored.{is_top}
-use Rattle.smk_exit.specs.Exit.{RunLeavesAllClean, IsAllClean, IsDueRun, all_clean, begun_so}
+use Rattle.smk_safe.specs.Exit.{RunLeavesAllClean, IsAllClean, IsDueRun, all_clean, begun_so}
 use Rattle.smk_clean.specs.Clean.{setting_in}
 use Rattle.smk_clean.proofs.Chained.{lists_stay, none_new}
 use Rattle.smk_clean.proofs.Firsts.{firsts_same}

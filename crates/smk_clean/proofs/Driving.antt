@@ -24,8 +24,8 @@ use Rattle.smk_cli_calls.specs.Serving.{Went, Refused, Stopped, Worked, Drove, W
 use Rattle.smk_cli_calls.proofs.Driving.{rules_are}
 use Rattle.smk_cli_calls.proofs.OneByOne.{none_grow}
 use Rattle.smk_cli_calls.specs.Whole.{AsksFor, IsRefusal, IsToServe}
-use Rattle.smk_laws_lock.specs.Parts.{AreRuns, One}
-use Rattle.smk_laws_lock.proofs.Parts.{parts_are_safe, runs_append}
+use Rattle.smk_laws_refusing.specs.Parts.{AreRuns, One}
+use Rattle.smk_laws_refusing.proofs.Parts.{parts_are_safe, runs_append}
 use Rattle.smk_clean.proofs.Safe.{Answer, Safely, goes_safe, looked_safe, ok_err}
 
 -- where the call has no fault the run came to its end

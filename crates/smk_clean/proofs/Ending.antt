@@ -30,8 +30,8 @@ use Rattle.smk_cli_calls.proofs.OneByOne.{none_forced, none_grow}
 use Rattle.smk_cli_calls.specs.Locking.{HasHeeded, Stood, Taken, Unmade, Untaken}
 use Rattle.smk_cli_calls.specs.Whole.{AsksFor, HasRun, HasServed, Heeded, IsRefusal, IsToServe, Unasked, Unheeded}
 use Rattle.smk_pick.specs.declared.settings.Force.TheVariants.{No}
-use Rattle.smk_laws_lock.proofs.Heeding.{lock_changes_itself_alone}
-use Rattle.smk_exit.specs.Exit.{RunLeavesAllClean}
+use Rattle.smk_laws_refusing.proofs.Heeding.{lock_changes_itself_alone}
+use Rattle.smk_safe.specs.Exit.{RunLeavesAllClean}
 use Rattle.smk_clean.specs.Again.{HasNoneLeft, CallLeavesNone}
 use Rattle.smk_clean.specs.Clean.{CallIsClean}
 use Rattle.smk_clean.proofs.Clean.{HasEndedWell, goes_clean, moved_end, no_first}

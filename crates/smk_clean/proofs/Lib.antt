@@ -1,3 +1,8 @@
+pub mod Unwanted
+pub mod Removing
+pub mod Idle
+pub mod UnstartedEvents
+pub mod Quiet
 pub mod Plain
 pub mod Told
 pub mod Firsts

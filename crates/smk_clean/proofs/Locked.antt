@@ -33,11 +33,11 @@ use Rattle.smk_cli_calls.specs.Serving.{Went, settings_of}
 use Rattle.smk_cli_calls.specs.Locking.{HasRunLocked, IsAfterLooks, IsClosed, IsOnceLocked, LockGoes, LockStays, with_release}
 use Rattle.smk_cli_calls.specs.Whole.{AsksFor, IsRefusal, IsToServe, OfPlan, OfWorkflow}
 use Rattle.smk_safe.proofs.Joining.{AreLooks, look_all}
-use Rattle.smk_laws_lock.specs.Heeding.{IsSameButLock}
-use Rattle.smk_laws_lock.specs.Parts.{IsRun, OnLock, One}
-use Rattle.smk_laws_lock.proofs.Heeding.{lock_changes_itself_alone, previews_heed_no_lock, refusals_heed_no_lock, same_back}
-use Rattle.smk_laws_lock.proofs.Moves.{lock_calls_are_runs}
-use Rattle.smk_laws_lock.proofs.Parts.{parts_are_safe}
+use Rattle.smk_laws_refusing.specs.Heeding.{IsSameButLock}
+use Rattle.smk_laws_refusing.specs.Parts.{IsRun, OnLock, One}
+use Rattle.smk_laws_refusing.proofs.Heeding.{lock_changes_itself_alone, previews_heed_no_lock, refusals_heed_no_lock, same_back}
+use Rattle.smk_laws_refusing.proofs.Moves.{lock_calls_are_runs}
+use Rattle.smk_laws_refusing.proofs.Parts.{parts_are_safe}
 use Rattle.smk_clean.proofs.Safe.{Answer, bounded, looks_are, ok_err}
 
 -- ## Calls on the lock

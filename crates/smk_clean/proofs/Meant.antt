@@ -29,7 +29,7 @@ use Rattle.smk_cli_calls.specs.Serving.{IsPlanFor, settings_of}
 use Rattle.smk_safe.specs.Planned.{IsPlain}
 use Rattle.smk_safe.proofs.Images.{holder_own}
 use Rattle.smk_safe.proofs.Planned.{plain_makes}
-use Rattle.smk_exit.specs.Dues.{TellsMakers}
+use Rattle.smk_safe.specs.Dues.{TellsMakers}
 use Rattle.smk_plan_preview.proofs.Agreed.{own_records}
 use Rattle.smk_cli_calls.specs.OneByOne.{IsPlainFlow}
 use Rattle.smk_cli_calls.proofs.Plain.{each_from}

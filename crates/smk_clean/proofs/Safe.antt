@@ -42,7 +42,7 @@ use Rattle.smk_plan.specs.Duties.{maker_in}
 use Rattle.smk_run.specs.Runs.{AreInOrder, IsOutcome as IsRunOutcome}
 use Rattle.smk_run.specs.Stamps.{Serials}
 use Rattle.smk_run.specs.Turns.{Turn, AreTurns, is_closed}
-use Rattle.smk_made.proofs.Done.{follows_split}
+use Rattle.smk_safe.proofs.Done.{follows_split}
 use Rattle.smk_words_reading.specs.declared.asked.RunWords.{RunWords}
 use Rattle.smk_cli_entry.specs.declared.asking.Asked.{Asked}
 use Rattle.smk_report.specs.Faults.{of_store}
@@ -54,14 +54,14 @@ use Rattle.smk_cli_calls.specs.Ends.{fault_of}
 use Rattle.smk_cli_calls.specs.Serving.{settings_of}
 use Rattle.smk_cli_calls.specs.Lines.{IsOutcome}
 use Rattle.smk_cli_calls.specs.Whole.{IsToServe}
-use Rattle.smk_laws_lock.specs.Parts.{One}
+use Rattle.smk_laws_refusing.specs.Parts.{One}
 use Rattle.smk_safe.specs.Planned.{IsFit}
 use Rattle.smk_safe.specs.Safe.{IsRunOf, IsSafeRun}
 use Rattle.smk_safe.proofs.Going.{safe_here}
 use Rattle.smk_safe.proofs.Joining.{AreLooks, look_all, looks_same}
 use Rattle.smk_safe.proofs.Safe.{front}
 use Rattle.smk_safe.proofs.Stored.{fold_holds, is_top, signs_are_all, kept_stands}
-use Rattle.smk_exit.proofs.Dues.{due_run_is_safe}
+use Rattle.smk_safe.proofs.Dues.{due_run_is_safe}
 use Rattle.smk_clean.specs.Safe.{IsSafeCall}
 use Rattle.smk_clean.proofs.Firsts.{firsts_same}
 use Rattle.smk_clean.proofs.Fit.{all_fit}

@@ -19,8 +19,8 @@ use Rattle.smk_words_reading.specs.declared.asked.RunWords.{RunWords}
 use Rattle.smk_cli_entry.specs.Faults.{device_failed, is_device}
 use Rattle.smk_cli_calls.specs.Locking.{HasHeeded, IsAfterLooks, Stood, Taken, Unmade, Untaken}
 use Rattle.smk_cli_calls.specs.Whole.{AsksFor, HasRun, Heeded, IsRefusal, IsToServe, Serves, Unasked, Unheeded}
-use Rattle.smk_laws_lock.specs.Parts.{AreRuns, IsRun, One, Then}
-use Rattle.smk_laws_lock.proofs.Parts.{runs_append}
+use Rattle.smk_laws_refusing.specs.Parts.{AreRuns, IsRun, One, Then}
+use Rattle.smk_laws_refusing.proofs.Parts.{runs_append}
 use Rattle.smk_clean.specs.Safe.{CallIsSafe}
 use Rattle.smk_clean.proofs.Locked.{IsUnderLock, taking_run, under_lock}
 use Rattle.smk_clean.proofs.Safe.{Answer, Safely, looked_safe, no_fault, ok_err}

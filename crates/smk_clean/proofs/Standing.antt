@@ -25,8 +25,8 @@ use Rattle.smk_cli_calls.specs.Ends.{fault_of}
 use Rattle.smk_cli_calls.specs.Lines.{IsOutcome}
 use Rattle.smk_cli_calls.specs.Locking.{IsClosed, LockGoes, LockStays, Stood, Taken, Unmade, Untaken, with_release}
 use Rattle.smk_cli_calls.specs.Whole.{AsksFor, HasRun, Heeded, IsRefusal, OfWorkflow, OfPlan, IsToServe, Unasked, Unheeded}
-use Rattle.smk_laws_lock.specs.Heeding.{IsSameButLock}
-use Rattle.smk_laws_lock.proofs.Heeding.{refusals_heed_no_lock, same_back}
+use Rattle.smk_laws_refusing.specs.Heeding.{IsSameButLock}
+use Rattle.smk_laws_refusing.proofs.Heeding.{refusals_heed_no_lock, same_back}
 use Rattle.smk_laws_refusing.specs.Leaving.{LeavesAllBut}
 use Rattle.smk_clean.specs.Standing.{IsFollowed, IsLockedOut, IsSameFault, HasLeftAll, HasStood, OneByOne, OnlyLocked, OnlyLooked, OnlyOpened, Told}
 use Rattle.smk_clean.specs.Standing.{RefusalStands, PlanRefusalStands, lock_of}

@@ -19,7 +19,7 @@ use Rattle.smk_plan.specs.Duties.{maker_in}
 use Rattle.smk_plan_states.specs.Served.{AreServed, IsBelow, IsToldOf, ReadEarlier}
 use Rattle.smk_plan_states.specs.Judged.{with_states}
 use Rattle.smk_safe.specs.Planned.{IsRead}
-use Rattle.smk_exit.specs.Dues.{TellsMakers}
+use Rattle.smk_safe.specs.Dues.{TellsMakers}
 
 -- ## What is told of a path
 

@@ -18,8 +18,8 @@ use Rattle.smk_run.specs.Turns.{AreTurns, Turn}
 use Rattle.smk_run.proofs.Calls.{cut_each, done_each}
 use Rattle.smk_laws_moments.proofs.QuietCalls.{IsQuiet, looks_quiet}
 use Rattle.smk_laws_refusing.specs.Leaving.{LeavesAllBut}
-use Rattle.smk_laws_again.specs.Again.{StartsNone}
-use Rattle.smk_laws_again.proofs.Unstarted.{none_then, quiet_none}
+use Rattle.smk_clean.specs.NothingStarts.{StartsNone}
+use Rattle.smk_clean.proofs.UnstartedEvents.{none_then, quiet_none}
 use Rattle.smk_cli_calls.specs.Locking.{IsClosed, LockGoes, LockStays}
 use Rattle.smk_clean.proofs.AtLock.{at_lock, releasing_only, taking_only}
 

@@ -21,7 +21,7 @@ use Rattle.smk_report.specs.declared.fault.Fault.{Fault}
 use Rattle.smk_run.specs.Turns.{Turn}
 use Rattle.smk_drive.specs.Moments.{Rules}
 use Rattle.smk_drive_first.specs.Opening.{AreRules}
-use Rattle.smk_laws_again.specs.Again.{StartsNone}
+use Rattle.smk_clean.specs.NothingStarts.{StartsNone}
 use Rattle.smk_words_reading.specs.declared.asked.RunWords.{RunWords}
 use Rattle.smk_words_reading.specs.declared.asked.Asked.TheVariants.{Run}
 use Rattle.smk_cli_entry.specs.declared.asking.Asked.{Asked}
@@ -31,7 +31,7 @@ use Rattle.smk_plan_preview.specs.declared.previewing.Previewed.{Previewed}
 use Rattle.smk_cli_calls.specs.Serving.{Went, Refused, Stopped, Worked, Drove, settings_of}
 use Rattle.smk_cli_calls.specs.Locking.{HasHeeded, Unmade, Stood, Untaken, Taken}
 use Rattle.smk_cli_calls.specs.Whole.{AsksFor, HasRun, Unheeded, Unasked, Heeded, HasServed}
-use Rattle.smk_exit.specs.Exit.{begun_so}
+use Rattle.smk_safe.specs.Exit.{begun_so}
 
 -- ## The plan of the exit
 

@@ -1,3 +1,4 @@
+pub mod NothingStarts
 pub mod Safe
 pub mod Standing
 pub mod Clean

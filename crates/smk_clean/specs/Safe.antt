@@ -11,7 +11,7 @@ use Rattle.smk_laws_protocol.specs.Midway.{HasSafeImages}
 use Rattle.smk_report.specs.declared.fault.Fault.{Fault}
 use Rattle.smk_words_reading.specs.declared.asked.Asked.{Asked as Request}
 use Rattle.smk_cli_calls.specs.Whole.{HasServed}
-use Rattle.smk_laws_lock.specs.Parts.{AreRuns}
+use Rattle.smk_laws_refusing.specs.Parts.{AreRuns}
 
 -- The events of a call keep the folder safe: after every prefix of them whatever a crash leaves is sound, and has the sources of the entry; and where no child is
 -- left, the folder is sound at the end.

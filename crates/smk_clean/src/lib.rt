@@ -1,11 +1,19 @@
-//! Laws of a whole call.
+//! Laws of a whole call, and of one that has nothing to do.
 #![tactic(auto)]
 
+ghost use Rattle.smk_clean.specs.NothingStarts.{DrivenStartsNone, SpentKeepsPlan};
 ghost use Rattle.smk_clean.specs.Again.{CallLeavesNone, NextCallStartsNothing};
 ghost use Rattle.smk_clean.specs.Clean.{CallIsClean};
 ghost use Rattle.smk_clean.specs.Locking.{LockIsLeft};
 ghost use Rattle.smk_clean.specs.Safe.{CallIsSafe};
 ghost use Rattle.smk_clean.specs.Standing.{PlanRefusalStands, RefusalStands};
+
+/// A run by whose first plan each job is Clean starts nothing, however it ends: no child, and it tells of no job where its folder is told at the end. For
+/// where each job is Clean and none has begun, a plan stays as it is when an output is removed that is spent by it.
+pub fn clean_runs_start_none()
+    ensures starts { DrivenStartsNone }
+    ensures stays { SpentKeepsPlan }
+{}
 
 /// The law of a whole call in a sound folder, whatever is asked, be its jobs made one after another or driven, and however it ends: after every prefix of its
 /// events whatever a crash leaves is sound and has the sources of the entry; and where it ends without a fault, or no child is left, the folder is sound.

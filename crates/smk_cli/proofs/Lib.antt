@@ -1,6 +1,10 @@
+pub mod PreviewKinds
+pub mod Making
+pub mod ListingKinds
+pub mod Texts
 pub mod Putting
 pub mod Outcomes
 pub mod Words
 pub mod Locking
-pub mod Serving
+pub mod ServingOf
 pub mod Kept

@@ -6,7 +6,7 @@ ghost use Rattle.smk_report.specs.Faults as report;
 use smk_report::{Fault, status_of};
 
 /// The end of a call: its exit status and its fault, if any.
-#[derive(Debug, Drop)]
+#[derive(Drop)]
 pub struct Outcome {
     pub status: u8,
     pub fault: Option<Fault>,

@@ -12,10 +12,10 @@ ghost use Rattle.smk_cli_calls.specs.Serving.{IsRefusedPlan, IsServed, IsThat, W
 ghost use Rattle.smk_cli_calls.specs.Locking as spec;
 ghost use Rattle.smk_cli_calls.specs.Locking.{HasHeeded, HasRunLocked};
 
+use crate::serving::make_targets;
 use smk_cli_entry::Asked;
 use smk_keep_lock::Lock;
 use smk_report::Fault;
-use smk_serve::make_targets;
 use smk_words_reading::RunWords;
 use smk_world::{Crew, Failed, Files, Sink};
 use std::alloc::Global;

@@ -16,7 +16,7 @@ use smk_world::Files;
 use std::alloc::Global;
 
 /// A workflow, the file that has it, and the paths that it is to make.
-#[derive(Debug, Drop)]
+#[derive(Drop)]
 pub struct Asked {
     pub file: PathText,
     pub flow: Workflow,

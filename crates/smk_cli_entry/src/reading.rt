@@ -15,7 +15,7 @@ use smk_world::Files;
 use std::alloc::Global;
 
 /// A workflow, and the file that has it.
-#[derive(Debug, Drop)]
+#[derive(Drop)]
 pub struct Reading {
     pub file: PathText,
     pub flow: Workflow,

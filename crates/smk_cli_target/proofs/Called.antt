@@ -4,7 +4,7 @@ use Rattle.std.proofs.lemmas.Option.{same_Some}
 use Rattle.smk_world.specs.declared.event.Event.{Event}
 use Rattle.smk_world.specs.World.{World, after, run}
 use Rattle.smk_world.specs.Runs.{Follows}
-use Rattle.smk_drive_target.proofs.Fronts.{tail_same}
+use Rattle.smk_drive_course.proofs.Fronts.{tail_same}
 use Rattle.smk_cli_target.specs.Clauses.{HasLog, HasText}
 use Rattle.smk_cli_target.specs.Ends.{Put}
 use Rattle.smk_cli_target.specs.Headline.{ClausesAreMet, HasLed}

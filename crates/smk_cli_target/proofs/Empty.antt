@@ -21,10 +21,10 @@ use Rattle.smk_report.specs.Lines.{joined, target_line, unlocked_line}
 use Rattle.smk_drive.specs.Moments.{Rules, Moment, Begun, IsMoment, AtEntry, AtRest, Between, is_closed_badly}
 use Rattle.smk_drive.specs.Lawful.{fit_together, running_jobs, is_good_end}
 use Rattle.smk_drive.specs.Reports.{NoLines}
-use Rattle.smk_drive_target.specs.Moments.{AtEachEvent}
-use Rattle.smk_drive_target.specs.Lawful.{Lawful, ClosedWithCause}
-use Rattle.smk_drive_target.specs.Keeping.{KeepsOutputs}
-use Rattle.smk_drive_target.specs.Reports.{HasLine}
+use Rattle.smk_drive_course.specs.Moments.{AtEachEvent}
+use Rattle.smk_drive_course.specs.Lawful.{Lawful, ClosedWithCause}
+use Rattle.smk_drive_course.specs.Keeping.{KeepsOutputs}
+use Rattle.smk_drive_course.specs.RunReports.{HasLine}
 use Rattle.smk_cli_target.specs.declared.ending.Outcome.{Outcome}
 use Rattle.smk_cli_target.specs.Ends.{Stays, IsClean}
 use Rattle.smk_cli_target.specs.Clauses.{IsRefusal, RunsWell, EndsEarly, HasUnlocked, HasForgotten, LeavesLittle, IsComplete, HasLog, HasText, Leaves, forgotten_lines}

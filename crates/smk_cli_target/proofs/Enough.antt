@@ -13,10 +13,10 @@ use Rattle.smk_laws_history.specs.Histories as histories
 use Rattle.smk_laws_history.proofs.HistoryLaw.{every_world_sound, every_world_tree, every_world_listed, fewer_differ, on_left, versions_differ}
 use Rattle.smk_drive.specs.Moments.{Rules, Moment}
 use Rattle.smk_drive.specs.Lawful.{IsSafeInput}
-use Rattle.smk_drive_target.specs.Lawful.{StartsWell}
+use Rattle.smk_drive_course.specs.Lawful.{StartsWell}
 use Rattle.smk_report.specs.Lines.{target_line}
-use Rattle.smk_drive_target.specs.Refusals.{ClashingRunRefuses}
-use Rattle.smk_drive_target.specs.Reports.{HasLine}
+use Rattle.smk_drive_course.specs.Refusals.{ClashingRunRefuses}
+use Rattle.smk_drive_course.specs.RunReports.{HasLine}
 use Rattle.smk_cli_target.specs.declared.ending.Outcome.{Outcome}
 use Rattle.smk_cli_target.specs.Files.{outside}
 use Rattle.smk_cli_target.specs.Ends.{IsGoodEntry, CurrentIsClean}

@@ -41,9 +41,9 @@ use Rattle.smk_pick.specs.declared.settings.Settings.{Settings}
 use Rattle.smk_plan.specs.States.{IsPlan, Last, LastPlan, Plan, Progress, Then, awaits, is_at_hand, is_held_back, is_input, is_open_now, is_read_now, is_spent, is_temporary, is_to_restore, job_path, makes_awaited, new_listings, nothing_done, reasons, staged}
 use Rattle.smk_drive.specs.Moments.{AtEntry, AtRest, Begun, Between, IsMoment, Moment, Rules, begins, begun_after, begun_of, changes_at, is_child_of, is_closed, is_rest, is_spent_removal, places, progress_of, runs, seen}
 use Rattle.smk_drive.specs.Lawful.{first_of, fit_together, is_failed_wait, lock_places, makes_folders, protects}
-use Rattle.smk_drive_target.specs.Keeping.{has_start, is_start}
-use Rattle.smk_drive_target.specs.Lawful.{BeginsWell, ChangesWell, IsLawfulEvent, MayBegin, StartsWell, WaitsWell, is_free_to_start, may_start, open_places, planned_places}
-use Rattle.smk_drive_target.specs.Moments.{AtEachEvent}
+use Rattle.smk_drive_course.specs.Keeping.{has_start, is_start}
+use Rattle.smk_drive_course.specs.Lawful.{BeginsWell, ChangesWell, IsLawfulEvent, MayBegin, StartsWell, WaitsWell, is_free_to_start, may_start, open_places, planned_places}
+use Rattle.smk_drive_course.specs.Moments.{AtEachEvent}
 use Rattle.smk_laws_plan.specs.Current.{IsComplete}
 use Rattle.smk_laws_plan.proofs.CurrentLists.{all_from, and_left, and_right, any_in, flat_in, in_either, none_some, or_cases, zip_first}
 use Rattle.smk_laws_plan.proofs.CurrentPaths.{among_in}

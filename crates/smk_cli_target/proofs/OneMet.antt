@@ -13,8 +13,8 @@ use Rattle.smk_report.specs.declared.fault.Fault.TheVariants as fault
 use Rattle.smk_laws_history.proofs.CurrentComplete.{seen_is_complete}
 use Rattle.smk_drive.specs.Moments.{Rules}
 use Rattle.smk_drive.specs.Refusals.{ChainRefuses}
-use Rattle.smk_drive_target.specs.Refusals.{IsSameFault, RunRefuses}
-use Rattle.smk_drive_target.proofs.OneRefusal.{one_chain_refusal, one_refusal}
+use Rattle.smk_drive_course.specs.Refusals.{IsSameFault, RunRefuses}
+use Rattle.smk_drive_course.proofs.OneRefusal.{one_chain_refusal, one_refusal}
 use Rattle.smk_words_reading.specs.declared.asked.Asked.{Asked}
 use Rattle.smk_words_reading.specs.declared.asked.Asked.TheVariants.{Run, Preview, Unlock, Forget, Generate}
 use Rattle.smk_words_reading.specs.declared.asked.RunWords.{RunWords}

@@ -19,10 +19,10 @@ use Rattle.smk_report.specs.Lines.{unlocked_line}
 use Rattle.smk_drive.specs.Moments.{Rules}
 use Rattle.smk_drive.specs.Refusals.{ClashingChainRefuses}
 use Rattle.smk_drive.specs.Reports.{listing_text}
-use Rattle.smk_drive_target.specs.Lawful.{Lawful}
-use Rattle.smk_drive_target.specs.Keeping.{KeepsOutputs, has_start}
-use Rattle.smk_drive_target.specs.Refusals.{BeginsUnrefused, IsSameFault, ClashingRunRefuses}
-use Rattle.smk_drive_target.specs.Reports.{IsPrefix, IsFront, HasStarts, HasLinesBefore}
+use Rattle.smk_drive_course.specs.Lawful.{Lawful}
+use Rattle.smk_drive_course.specs.Keeping.{KeepsOutputs, has_start}
+use Rattle.smk_drive_course.specs.Refusals.{BeginsUnrefused, IsSameFault, ClashingRunRefuses}
+use Rattle.smk_drive_course.specs.RunReports.{IsPrefix, IsFront, HasStarts, HasLinesBefore}
 use Rattle.smk_words_reading.specs.declared.asked.Asked.TheVariants.{Run, Preview, Unlock, Forget, Generate}
 use Rattle.smk_cli_target.specs.declared.ending.Outcome.{Outcome}
 use Rattle.smk_words_reading.specs.declared.asked.RunWords.{RunWords}

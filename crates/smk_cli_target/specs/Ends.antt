@@ -26,7 +26,7 @@ use Rattle.smk_report.specs.declared.fault.Fault.TheVariants as fault
 use Rattle.smk_report.specs.Lines.{Ending, Status, NoOutput, WrongKind, BadMember, target_line}
 use Rattle.smk_drive.specs.Moments.{Rules, Moment, IsMoment, Begun, progress_of}
 use Rattle.smk_drive.specs.Lawful.{failures, has_failed}
-use Rattle.smk_drive_target.specs.Reports.{IsRunText, HasLine}
+use Rattle.smk_drive_course.specs.RunReports.{IsRunText, HasLine}
 use Rattle.smk_words_reading.specs.declared.asked.Asked.TheVariants.{Run, Preview}
 use Rattle.smk_words_reading.specs.declared.asked.RunWords.{RunWords}
 use Rattle.smk_words_reading.specs.Asks.{IsAsked}

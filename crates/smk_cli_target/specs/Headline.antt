@@ -21,9 +21,9 @@ use Rattle.smk_report.specs.declared.fault.Fault.{Fault}
 use Rattle.smk_report.specs.Lines.{target_line}
 use Rattle.smk_drive.specs.Moments.{Rules, Moment}
 use Rattle.smk_drive.specs.Lawful.{IsSafeInput}
-use Rattle.smk_drive_target.specs.Moments.{AtEachEvent}
-use Rattle.smk_drive_target.specs.Refusals.{ClashingRunRefuses}
-use Rattle.smk_drive_target.specs.Reports.{HasLine}
+use Rattle.smk_drive_course.specs.Moments.{AtEachEvent}
+use Rattle.smk_drive_course.specs.Refusals.{ClashingRunRefuses}
+use Rattle.smk_drive_course.specs.RunReports.{HasLine}
 use Rattle.smk_record.specs.Reading.{record_in}
 use Rattle.smk_cli_target.specs.declared.ending.Outcome.{Outcome}
 use Rattle.smk_cli_target.specs.Files.{outside, seen}

@@ -19,8 +19,8 @@ use Rattle.smk_trigger.specs.JobStates.{is_clean, is_restore}
 use Rattle.smk_pick.specs.declared.settings.Force.TheVariants.{No}
 use Rattle.smk_plan.specs.States.{Plan, gathers_from, job_path, makes, staged}
 use Rattle.smk_drive.specs.Moments.{Rules, Moment, Begun, IsMoment, begun_after}
-use Rattle.smk_drive_target.specs.Moments.{AtEachEvent, starts}
-use Rattle.smk_drive_target.specs.Keeping.{has_start}
+use Rattle.smk_drive_course.specs.Moments.{AtEachEvent, starts}
+use Rattle.smk_drive_course.specs.Keeping.{has_start}
 use Rattle.smk_words_reading.specs.declared.asked.Asked.TheVariants.{Run}
 use Rattle.smk_cli_target.specs.declared.ending.Outcome.{Outcome}
 use Rattle.smk_words_reading.specs.declared.asked.RunWords.{RunWords}

@@ -4,7 +4,7 @@ use smk_base::OutOfMemory;
 use std::alloc::{AllocError, AllocFailed};
 
 /// Why a configuration wasn't read, or has no such value.
-#[derive(Clone, Copy, Debug, PartialEq, Eq)]
+#[derive(Clone, Copy, PartialEq, Eq)]
 pub enum ConfigFault {
     /// The file is no JSON object; or the value is neither a text, a whole number of 64 bits, a truth value, nor a list of these.
     BadConfig,

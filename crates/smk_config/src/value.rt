@@ -12,7 +12,7 @@ use std::alloc::Global;
 
 /// What stands under a key: a text, or a list of texts. A whole number or a truth value is the text of its spelling, `True` or
 /// `False`.
-#[derive(Debug, Drop)]
+#[derive(Drop)]
 pub enum Value {
     Word(Text),
     Many(List<Text>),

@@ -1,7 +1,7 @@
 //! How a job stands.
 
 /// How a job stands.
-#[derive(Clone, Copy, Debug, PartialEq, Eq)]
+#[derive(Clone, Copy, PartialEq, Eq)]
 pub enum Phase {
     /// It hasn't begun.
     Waiting,

@@ -17,7 +17,7 @@ use std::marker::Model;
 
 /// Jobs with what they ask for, some of which are in line. There are few kinds of asks, so the first job that fits is found by a look at the
 /// head of each line.
-#[derive(Debug, Drop)]
+#[derive(Drop)]
 pub(crate) struct Ready {
     asks: List<Ask>,
     places: Vec<Place>,

@@ -9,7 +9,7 @@ use smk_pick::{Ask, Room};
 use std::alloc::Global;
 
 /// What is to be done next.
-#[derive(Clone, Copy, Debug, PartialEq, Eq)]
+#[derive(Clone, Copy, PartialEq, Eq)]
 pub enum Step {
     /// The job with this number is to be started. It counts as running from now on.
     Start(u32),

@@ -10,7 +10,7 @@ use std::alloc::Global;
 use std::marker::Model;
 
 /// Numbers in places, each of which has one or none. Contracts see the list of them.
-#[derive(Debug, Drop)]
+#[derive(Drop)]
 pub(crate) struct Tournament {
     places: usize,
     // From `places` on the numbers; below them, from 1 on, at each index the lesser of the nodes at its double and behind that.

@@ -1,5 +1,5 @@
 /// Why files have no digests.
-#[derive(Clone, Copy, Debug, PartialEq, Eq)]
+#[derive(Clone, Copy, PartialEq, Eq)]
 pub enum SumFault {
     /// A call of the device failed.
     Device,

@@ -32,7 +32,7 @@ use Rattle.smk_drive_step.specs.Crews.{IsPutFor, is_device}
 use Rattle.smk_drive_step.specs.Telling.{IsPutIf}
 use Rattle.smk_laws_turns.specs.Hubs.{Parts}
 use Rattle.smk_laws_turns.specs.Turning.{faulted}
-use Rattle.smk_laws_rest.specs.Resting.{IsAnswerOf, IsTold}
+use Rattle.smk_laws_turns.specs.Resting.{IsAnswerOf, IsTold}
 use Rattle.smk_drive_hub.specs.Keeping.{heeded}
 use Rattle.smk_drive_hub.specs.Turned.{HasTurned}
 use Rattle.smk_laws_begins.specs.Begins.{MayTake}

@@ -7,7 +7,7 @@ use Rattle.smk_pick.specs.declared.settings.Settings.{Settings}
 use Rattle.smk_report.specs.declared.fault.Fault.{Fault}
 use Rattle.smk_drive_step.specs.declared.children.Child.{Child}
 use Rattle.smk_drive_step.specs.Crews.{IsPutFor, goings, or_later}
-use Rattle.smk_laws_rest.specs.Resting.{refused_command}
+use Rattle.smk_laws_turns.specs.Resting.{refused_command}
 use Rattle.smk_laws_turns.specs.Hubs.{Parts}
 use Rattle.smk_laws_turns.specs.Turning.{faulted}
 use Rattle.smk_drive_hub.specs.Keeping.{heeded}

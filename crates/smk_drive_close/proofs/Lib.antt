@@ -1,2 +1,7 @@
+mod Moved
+mod Faults
+mod Taken
+mod Onward
+mod Grown
 mod Found
 mod Halting

@@ -8,16 +8,16 @@ ghost use Rattle.smk_plan_live.specs.Lives.{IsLive};
 ghost use Rattle.smk_drive_course.specs.Stands.{NoneLeft};
 ghost use Rattle.smk_drive_step.specs.declared.children.Child.{Child as ChildValue};
 ghost use Rattle.smk_drive_hub.specs.Keeping.{parts_of};
-ghost use Rattle.smk_laws_rest.specs.Resting.{refused_command};
+ghost use Rattle.smk_laws_turns.specs.Resting.{refused_command};
 ghost use Rattle.smk_drive_hub.specs.Turned.{AreSeated, HasTurned, IsSteady, IsTakenFrom, Somewhere, WhereUnhalted};
 ghost use Rattle.smk_laws_closes.specs.Ending.{HasEndedSo};
 ghost use Rattle.smk_laws_closes.specs.Turns.{HasFollowed};
 
 use crate::counts::is_good;
 use crate::ends::note_end;
+use crate::growing_on::grow;
 use crate::tending::{job_at, tend};
 use smk_base::Text;
-use smk_drive_grow::grow;
 use smk_drive_hub::{Ground, Hub};
 use smk_drive_step::{Child, work_fault};
 use smk_report::Fault;

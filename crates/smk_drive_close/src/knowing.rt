@@ -11,7 +11,7 @@ ghost use Rattle.smk_plan_live.specs.declared.phase.Phase.TheVariants.{Running};
 ghost use Rattle.smk_drive_course.specs.Driven.{device_failed};
 ghost use Rattle.smk_drive_outcome.specs.Outcomes.{AreForPaths};
 ghost use Rattle.smk_drive_step.specs.Crews.{is_device};
-ghost use Rattle.smk_laws_rest.specs.Resting.{IsReplyOf, refused_command};
+ghost use Rattle.smk_laws_turns.specs.Resting.{IsReplyOf, refused_command};
 ghost use Rattle.smk_laws_closes.specs.Learning.{HasLearntOf, IsOutcomeIn, IsSamePlan, closed_base};
 ghost use Rattle.smk_report.specs.declared.fault.Fault.TheVariants as fault;
 

@@ -8,7 +8,7 @@ ghost use Rattle.smk_plan_live.specs.Lives.{IsLive};
 ghost use Rattle.smk_report.specs.declared.fault.Fault.TheVariants as fault;
 ghost use Rattle.smk_drive_course.specs.Driven.{device_failed};
 ghost use Rattle.smk_drive_step.specs.Telling.{HasGuarded};
-ghost use Rattle.smk_laws_rest.specs.Resting.{refused_command};
+ghost use Rattle.smk_laws_turns.specs.Resting.{refused_command};
 ghost use Rattle.smk_laws_closes.specs.Learning.{IsSamePlan};
 ghost use Rattle.smk_laws_closes.specs.Tending.{HasTendedOf, guards_if};
 

@@ -1,3 +1,8 @@
+pub mod Moments
+pub mod Lawful
+pub mod Keeping
+pub mod Refusals
+pub mod RunReports
 pub mod Stands
 pub mod Steps
 pub mod Breaks

@@ -11,8 +11,8 @@ use Rattle.smk_report.specs.declared.fault.Fault.{Fault}
 use Rattle.smk_report.specs.declared.fault.Fault.TheVariants as fault
 use Rattle.smk_drive.specs.Moments.{Rules, Moment, Begun, IsInForce, ending, is_rest, lists_of}
 use Rattle.smk_drive.specs.Refusals.{PlansRefuse}
-use Rattle.smk_drive_target.specs.Lawful.{NothingLeft}
-use Rattle.smk_drive_target.specs.Refusals.{MomentRefuses}
+use Rattle.smk_drive_course.specs.Lawful.{NothingLeft}
+use Rattle.smk_drive_course.specs.Refusals.{MomentRefuses}
 
 -- The jobs that have begun in this run, in order, each with how its child ended; the children that run, with what it takes to close the
 -- job of each; the listings of the plans before the one in force, and that plan; the first fault, after which no job begins; and whether

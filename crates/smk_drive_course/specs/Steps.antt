@@ -29,7 +29,7 @@ use Rattle.smk_run.specs.Closings.{wait_event, IsClosedBy}
 use Rattle.smk_run.specs.Runs.{AreWritable}
 use Rattle.smk_drive.specs.Moments.{Rules, Begun, begun_of, ending, is_spent_now, seen}
 use Rattle.smk_drive.specs.Lawful.{first_of, goes_on}
-use Rattle.smk_drive_target.specs.Lawful.{may_start}
+use Rattle.smk_drive_course.specs.Lawful.{may_start}
 use Rattle.smk_drive_course.specs.Stands.{Stand, GoesBy, IsClear, IsReplanned, NoneLeft, Refuses, broken_by_device, halted_by, moment_of, with_job, without_child}
 
 -- What a run has done that its report tells: a job was started; one was closed, and ended so.

@@ -2,7 +2,7 @@ use smk_base::List;
 use smk_report::Fault;
 
 /// How a run ended that came to its end, be it with jobs that failed.
-#[derive(Debug, Drop)]
+#[derive(Drop)]
 pub struct End {
     /// How many jobs were started.
     pub started: u64,

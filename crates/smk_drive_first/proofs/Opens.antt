@@ -44,7 +44,7 @@ use Rattle.smk_report.specs.Faults.{of_store}
 use Rattle.smk_drive.specs.Moments.{Rules}
 use Rattle.smk_drive.specs.Refusals.{ChainRefuses}
 use Rattle.smk_drive.specs.Refusals.ChainRefuses.{DerivationRefuses, PlanRefuses, NextRefuses}
-use Rattle.smk_drive_target.specs.Refusals.MomentRefuses.{PlansAreRefused}
+use Rattle.smk_drive_course.specs.Refusals.MomentRefuses.{PlansAreRefused}
 use Rattle.smk_drive_course.specs.Driven.{HasSigns, IsOpening, LacksMemory, LoadingFails, LooksFail, Opens, SettlingFails}
 use Rattle.smk_plan_preview.specs.Faults.{device_failed, is_device, is_sink, is_told}
 use Rattle.smk_plan_preview.proofs.LookedAt.{looks_leave, none_still, seen_moved}

@@ -8,8 +8,8 @@ use Rattle.smk_plan_live.specs.declared.live.LivePlan.{LivePlan}
 use Rattle.smk_report.specs.declared.fault.Fault.{Fault}
 use Rattle.smk_report.specs.declared.fault.Fault.TheVariants as fault
 use Rattle.smk_drive_step.specs.Crews.{is_device}
-use Rattle.smk_laws_rest.specs.Resting.{IsReplyOf, IsTold, OfCommand, refused_command}
-use Rattle.smk_laws_rest.proofs.Answering.{command_quiet}
+use Rattle.smk_laws_turns.specs.Resting.{IsReplyOf, IsTold, OfCommand, refused_command}
+use Rattle.smk_laws_turns.proofs.Answering.{command_quiet}
 
 -- a fault of it is none of the device or the sink
 pub checked_quiet :

@@ -5,7 +5,7 @@ ghost use Rattle.smk_report.specs.declared.fault.Fault.TheVariants as fault;
 ghost use Rattle.smk_plan_live.specs.declared.base.Base.{Base};
 ghost use Rattle.smk_plan_live.specs.Lives.{IsLive, IsRefusedNow};
 ghost use Rattle.smk_drive_step.specs.Crews.{is_device};
-ghost use Rattle.smk_laws_rest.specs.Resting.{IsAnswerOf, IsReplyOf, IsTold, looked_as, refused_command};
+ghost use Rattle.smk_laws_turns.specs.Resting.{IsAnswerOf, IsReplyOf, IsTold, looked_as, refused_command};
 
 use smk_base::{List, OutOfMemory};
 use smk_flow::Workflow;

@@ -27,7 +27,7 @@ use Rattle.smk_plan_live.specs.declared.live.LivePlan.{LivePlan}
 use Rattle.smk_plan_preview.specs.Rounds.{AreReady, HasTooMany, IsRefusedFirst}
 use Rattle.smk_plan_preview.proofs.LookedAt.{IsSameFolder, seen_moved}
 use Rattle.smk_report.specs.declared.fault.Fault.{Fault}
-use Rattle.smk_laws_rest.specs.Growing.{IsMoreRefusal, Refuses, TooMany, are_held, lists_now}
+use Rattle.smk_laws_turns.specs.Growing.{IsMoreRefusal, Refuses, TooMany, are_held, lists_now}
 use Rattle.smk_drive_more.specs.declared.looking.More.{More}
 use Rattle.smk_drive_more.specs.Found.{HasFound, HasMore, IsFoundBy, IsRefusedWith}
 

@@ -14,7 +14,7 @@ use Rattle.smk_plan_preview.specs.Faults.{is_told}
 use Rattle.smk_plan_preview.specs.Rounds.{AreReady, HasTooMany, IsRefusedFirst}
 use Rattle.smk_plan_live.specs.declared.live.LivePlan.{LivePlan}
 use Rattle.smk_report.specs.declared.fault.Fault.{Fault}
-use Rattle.smk_laws_rest.specs.Growing.{IsMoreOf, IsMoreRefusal}
+use Rattle.smk_laws_turns.specs.Growing.{IsMoreOf, IsMoreRefusal}
 use Rattle.smk_drive_more.specs.declared.looking.More.{More}
 
 module _ (read : List ℕ → Option Record) (flow : Flow) (settings : Settings) (w : World) where

@@ -11,7 +11,7 @@ ghost use Rattle.smk_chain_derive.specs.Clashes.{ListsKnown};
 ghost use Rattle.smk_chain_sight.specs.Disk.{IsOwnedCovered};
 ghost use Rattle.smk_plan_preview.specs.Faults.{device_failed, is_sink};
 ghost use Rattle.smk_plan_preview.specs.Rounds.{IsSighted};
-ghost use Rattle.smk_laws_rest.specs.Growing.{IsBeside};
+ghost use Rattle.smk_laws_turns.specs.Growing.{IsBeside};
 ghost use Rattle.smk_drive_more.specs.Found.{HasFound, HasMore};
 
 use crate::holding::are_held;

@@ -4,7 +4,7 @@ ghost use Rattle.std.specs.Prelude.{◌≡◌, zip};
 ghost use Rattle.std.specs.List.{list_all};
 ghost use Rattle.smk_trigger.specs.JobStates as states;
 ghost use Rattle.smk_plan.specs.States.{test_some};
-ghost use Rattle.smk_laws_rest.specs.Growing as growing;
+ghost use Rattle.smk_laws_turns.specs.Growing as growing;
 
 use smk_flow::Job;
 use smk_plan::Told;

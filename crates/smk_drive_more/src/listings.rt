@@ -2,7 +2,7 @@
 
 ghost use Rattle.std.specs.Prelude.{◌≡◌, IfErr, IfOk};
 ghost use Rattle.smk_report.specs.declared.fault.Fault.TheVariants as fault;
-ghost use Rattle.smk_laws_rest.specs.Growing.{lists_now};
+ghost use Rattle.smk_laws_turns.specs.Growing.{lists_now};
 
 use smk_base::List;
 use smk_chain::Listings;

@@ -23,7 +23,7 @@ use smk_world::{Files, Out, OutItem, WorkFault};
 use std::alloc::Global;
 
 /// What is known of the outputs of a job and what stands there: one entry and one sight for each, in their order.
-#[derive(Debug, Drop)]
+#[derive(Drop)]
 pub struct Outcome {
     pub entries: List<Entry>,
     pub sights: List<Sight>,

@@ -30,7 +30,7 @@ struct Ground<'j> {
 }
 
 // A job that may begin.
-#[derive(Clone, Copy, Debug)]
+#[derive(Clone, Copy)]
 struct Best {
     number: u32,
     priority: u64,

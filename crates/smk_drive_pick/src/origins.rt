@@ -12,7 +12,7 @@ use std::alloc::Global;
 use std::collections::BTreeMap;
 
 /// What makes a path.
-#[derive(Debug, Drop)]
+#[derive(Drop)]
 pub(crate) struct Origin {
     /// The number of the job; none for a source.
     pub(crate) job: Option<u32>,

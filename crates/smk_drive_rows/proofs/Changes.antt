@@ -14,7 +14,7 @@ use Rattle.smk_world.proofs.Names.{not_above}
 use Rattle.smk_world.specs.Trees.{Path}
 use Rattle.smk_drive.specs.Moments.{Rules, Moment, is_spent_removal}
 use Rattle.smk_drive.specs.Lawful.{lock_places, makes_folders, protects}
-use Rattle.smk_drive_target.specs.Lawful.{is_allowed, open_places, planned_places, ChangesWell}
+use Rattle.smk_drive_course.specs.Lawful.{is_allowed, open_places, planned_places, ChangesWell}
 use Rattle.smk_drive_rows.proofs.Truth.{and_left, and_right, or_left, or_right}
 
 pub at_within : (q p : Path) (ps : List Path) → is_at_or_under q p ≡ true → is_within p ps ≡ true → is_within q ps ≡ true

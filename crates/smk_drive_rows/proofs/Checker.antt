@@ -20,8 +20,8 @@ use Rattle.smk_trigger.specs.declared.reason.State.{State}
 use Rattle.smk_plan.specs.States.{Plan, none_or_one, staged}
 use Rattle.smk_drive.specs.Moments.{Rules, Moment, Begun, IsMoment, EachMoment, begins, begun_after, runs, is_rest, is_closed_badly, staged_now}
 use Rattle.smk_drive.specs.Lawful.{is_wait, is_failed_wait, is_good_end, fit_together, running_jobs, goes_on, first_of, record_for, IsSafeInput}
-use Rattle.smk_drive_target.specs.Moments.{AtEachEvent}
-use Rattle.smk_drive_target.specs.Lawful.{Lawful, MayBegin, BeginsWell, StartsWell, IsStartOf, WritesWell, WaitsWell, NothingLeft, ClosedWithCause, may_start, is_free_to_start}
+use Rattle.smk_drive_course.specs.Moments.{AtEachEvent}
+use Rattle.smk_drive_course.specs.Lawful.{Lawful, MayBegin, BeginsWell, StartsWell, IsStartOf, WritesWell, WaitsWell, NothingLeft, ClosedWithCause, may_start, is_free_to_start}
 use Rattle.smk_drive_rows.proofs.Truth.{and_left, and_right, not_both, so_false, not_empty, nil_right, each_true, first_alone, finds_first, Finds}
 use Rattle.smk_drive_rows.proofs.Chains.{is_empty, empty_so}
 use Rattle.smk_drive_rows.proofs.Logs.{Unless, unless_left, unless_right, IsSettled, first_moment, last, at_the_end, Holds, all_events, at_each, by_tests}

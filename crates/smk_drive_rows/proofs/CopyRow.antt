@@ -22,9 +22,9 @@ use Rattle.smk_chain.proofs.Folders.{jobs_in, recorded}
 use Rattle.smk_plan.proofs.Plans.{out_txt, before_copy}
 use Rattle.smk_drive.proofs.Turns.{reader, event, put}
 use Rattle.smk_report.specs.declared.fault.Fault.{Fault}
-use Rattle.smk_drive_target.specs.Lawful.{Lawful}
-use Rattle.smk_drive_target.specs.Refusals.{RunRefuses}
-use Rattle.smk_drive_target.specs.Reports.{IsRunText}
+use Rattle.smk_drive_course.specs.Lawful.{Lawful}
+use Rattle.smk_drive_course.specs.Refusals.{RunRefuses}
+use Rattle.smk_drive_course.specs.RunReports.{IsRunText}
 use Rattle.smk_drive_rows.proofs.Truth.{not_empty, nil_right, only}
 use Rattle.smk_drive_rows.proofs.Logs.{IsSettled, first_moment, first_is, last, last_is}
 use Rattle.smk_drive_rows.proofs.Checker.{IsChecked, started}

@@ -19,8 +19,8 @@ use Rattle.smk_flow.proofs.Examples.{rule, input, output, flow_of, cat}
 use Rattle.smk_chain.proofs.Folders.{jobs_in, recorded}
 use Rattle.smk_plan.proofs.Plans.{with_targets, before_copy}
 use Rattle.smk_drive.proofs.Turns.{reader, event, put}
-use Rattle.smk_drive_target.specs.Lawful.{Lawful}
-use Rattle.smk_drive_target.specs.Reports.{IsFront}
+use Rattle.smk_drive_course.specs.Lawful.{Lawful}
+use Rattle.smk_drive_course.specs.RunReports.{IsFront}
 use Rattle.smk_drive_rows.proofs.Truth.{not_both, each_true, at_each}
 use Rattle.smk_drive_rows.proofs.Chains.{is_empty}
 use Rattle.smk_drive_rows.proofs.Logs.{IsSettled, last, last_is}

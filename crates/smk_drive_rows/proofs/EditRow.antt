@@ -15,7 +15,7 @@ use Rattle.smk_flow.proofs.Examples.{copy}
 use Rattle.smk_chain.proofs.Folders.{recorded}
 use Rattle.smk_plan.proofs.Plans.{out_txt}
 use Rattle.smk_drive.proofs.Turns.{put}
-use Rattle.smk_drive_target.specs.Reports.{IsRunText}
+use Rattle.smk_drive_course.specs.RunReports.{IsRunText}
 use Rattle.smk_drive_rows.proofs.Logs.{IsSettled}
 use Rattle.smk_drive_rows.proofs.Checker.{started}
 use Rattle.smk_drive_rows.proofs.Keeping.{Keeps}

@@ -19,9 +19,9 @@ use Rattle.smk_record.specs.declared.record.Record.{Record}
 use Rattle.smk_pick.specs.declared.settings.Settings.{Settings}
 use Rattle.smk_drive.specs.Moments.{Rules}
 use Rattle.smk_drive.proofs.Turns.{event, put}
-use Rattle.smk_drive_target.specs.Lawful.{Lawful}
-use Rattle.smk_drive_target.specs.Keeping.{KeepsOutputs}
-use Rattle.smk_drive_target.specs.Refusals.{BeginsUnrefused}
+use Rattle.smk_drive_course.specs.Lawful.{Lawful}
+use Rattle.smk_drive_course.specs.Keeping.{KeepsOutputs}
+use Rattle.smk_drive_course.specs.Refusals.{BeginsUnrefused}
 use Rattle.smk_drive_rows.proofs.Truth.{and_left, and_right}
 use Rattle.smk_drive_rows.proofs.Logs.{first_moment}
 use Rattle.smk_drive_rows.proofs.Checker.{IsChecked, lawful}

@@ -12,8 +12,8 @@ use Rattle.smk_flow.proofs.Examples.{copy_with}
 use Rattle.smk_chain.proofs.Folders.{jobs_in}
 use Rattle.smk_plan.proofs.Plans.{out_txt, before_copy}
 use Rattle.smk_drive.proofs.Turns.{reader, put}
-use Rattle.smk_drive_target.specs.Lawful.{Lawful}
-use Rattle.smk_drive_target.specs.Reports.{IsRunText}
+use Rattle.smk_drive_course.specs.Lawful.{Lawful}
+use Rattle.smk_drive_course.specs.RunReports.{IsRunText}
 use Rattle.smk_drive_rows.proofs.Truth.{nil_right}
 use Rattle.smk_drive_rows.proofs.Logs.{IsSettled, last, last_is}
 use Rattle.smk_drive_rows.proofs.Checker.{IsChecked, started}

@@ -20,7 +20,7 @@ use Rattle.smk_flow.proofs.Examples.{clusters}
 use Rattle.smk_chain.proofs.Folders.{jobs_in, recorded, fresh}
 use Rattle.smk_plan.proofs.Plans.{aggregated, a_member}
 use Rattle.smk_drive.proofs.Turns.{reader, put}
-use Rattle.smk_drive_target.specs.Reports.{IsRunText}
+use Rattle.smk_drive_course.specs.RunReports.{IsRunText}
 use Rattle.smk_drive_rows.proofs.Logs.{IsSettled}
 use Rattle.smk_drive_rows.proofs.Checker.{IsChecked, started}
 use Rattle.smk_drive_rows.proofs.Keeping.{Keeps}

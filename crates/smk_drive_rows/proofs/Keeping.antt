@@ -8,7 +8,7 @@ use Rattle.smk_world.specs.World.{World, IsFormed, run}
 use Rattle.smk_world.specs.Trees.{Path}
 use Rattle.smk_store.specs.Images.{Content, file_at}
 use Rattle.smk_drive.specs.Moments.{Rules, Moment, Begun, seen, is_spent_now, is_closed_well}
-use Rattle.smk_drive_target.specs.Keeping.{KeepsOutputs, Spends, IsSettled as IsSettledAt, AreProtected, has_start}
+use Rattle.smk_drive_course.specs.Keeping.{KeepsOutputs, Spends, IsSettled as IsSettledAt, AreProtected, has_start}
 use Rattle.smk_drive_rows.proofs.Truth.{not_both, each_true, at_each as at_each_of}
 use Rattle.smk_drive_rows.proofs.Logs.{IsSettled, first_moment, last, at_the_end, Holds, all_events, at_each, by_tests}
 

@@ -6,8 +6,8 @@ use Rattle.smk_world.proofs.Names.{formed_after}
 use Rattle.smk_chain.specs.Derive.{Listings}
 use Rattle.smk_plan.specs.States.{Plan}
 use Rattle.smk_drive.specs.Moments.{Rules, Moment, Begun, IsMoment, AtEntry, AtRest, Between, begun_after, is_rest, lists_of}
-use Rattle.smk_drive_target.specs.Moments.{AtEachEvent}
-use Rattle.smk_drive_target.proofs.OneMoment.{one_moment}
+use Rattle.smk_drive_course.specs.Moments.{AtEachEvent}
+use Rattle.smk_drive_course.proofs.OneMoment.{one_moment}
 use Rattle.smk_drive_rows.proofs.Truth.{and_left, and_right, nil_right, moved, head_same, tail_same, no_split}
 use Rattle.smk_drive_rows.proofs.Chains.{chain, in_force, IsSettled as IsSettledChain}
 

@@ -12,7 +12,7 @@ use Rattle.smk_flow.proofs.Examples.{cat, flow_of, input, output, rule}
 use Rattle.smk_chain.proofs.Folders.{jobs_in}
 use Rattle.smk_plan.proofs.Plans.{before_copy, with_targets}
 use Rattle.smk_drive.proofs.Turns.{reader}
-use Rattle.smk_drive_target.specs.Lawful.{Lawful}
+use Rattle.smk_drive_course.specs.Lawful.{Lawful}
 use Rattle.smk_drive_rows.proofs.Truth.{only}
 use Rattle.smk_drive_rows.proofs.Logs.{IsSettled, last, last_is}
 use Rattle.smk_drive_rows.proofs.Events.{rules_by, marking, start, of_job}

@@ -10,7 +10,7 @@ use Rattle.smk_drive.specs.Lawful.{IsSafeInput}
 use Rattle.smk_flow.proofs.Examples.{temporary_with, cat}
 use Rattle.smk_plan.proofs.Plans.{u_and_v, temporary_jobs, temporary_records}
 use Rattle.smk_drive.proofs.Turns.{reader}
-use Rattle.smk_drive_target.specs.Lawful.{Lawful}
+use Rattle.smk_drive_course.specs.Lawful.{Lawful}
 use Rattle.smk_drive_rows.proofs.Truth.{only}
 use Rattle.smk_drive_rows.proofs.Logs.{IsSettled, last, last_is}
 use Rattle.smk_drive_rows.proofs.Events.{formed_of, rules_by, marking, start, of_job}

@@ -22,9 +22,9 @@ use Rattle.smk_flow.proofs.Examples.{rule, input, output, gathering, flow_of, ca
 use Rattle.smk_chain.proofs.Folders.{jobs_in, recorded}
 use Rattle.smk_plan.proofs.Plans.{with_targets, before_copy, a_member}
 use Rattle.smk_drive.proofs.Turns.{reader, put}
-use Rattle.smk_drive_target.specs.Lawful.{Lawful}
-use Rattle.smk_drive_target.specs.Refusals.{RunRefuses, PlansAreRefused}
-use Rattle.smk_drive_target.specs.Reports.{IsFront}
+use Rattle.smk_drive_course.specs.Lawful.{Lawful}
+use Rattle.smk_drive_course.specs.Refusals.{RunRefuses, PlansAreRefused}
+use Rattle.smk_drive_course.specs.RunReports.{IsFront}
 use Rattle.smk_drive_rows.proofs.Chains.{refused_next}
 use Rattle.smk_drive_rows.proofs.Logs.{IsSettled, last, last_is}
 use Rattle.smk_drive_rows.proofs.Checker.{IsChecked, started}

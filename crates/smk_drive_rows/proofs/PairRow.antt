@@ -16,8 +16,8 @@ use Rattle.smk_flow.proofs.Examples.{rule, input, output, flow_of, cat}
 use Rattle.smk_chain.proofs.Folders.{jobs_in, recorded}
 use Rattle.smk_plan.proofs.Plans.{with_targets, before_copy}
 use Rattle.smk_drive.proofs.Turns.{reader}
-use Rattle.smk_drive_target.specs.Lawful.{Lawful}
-use Rattle.smk_drive_target.specs.Reports.{IsRunText}
+use Rattle.smk_drive_course.specs.Lawful.{Lawful}
+use Rattle.smk_drive_course.specs.RunReports.{IsRunText}
 use Rattle.smk_drive_rows.proofs.Truth.{not_empty}
 use Rattle.smk_drive_rows.proofs.Logs.{IsSettled, last, last_is}
 use Rattle.smk_drive_rows.proofs.Checker.{IsChecked, started}

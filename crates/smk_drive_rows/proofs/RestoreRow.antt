@@ -23,8 +23,8 @@ use Rattle.smk_flow.proofs.Examples.{rule, input, output, gathering, flow_of, ca
 use Rattle.smk_chain.proofs.Folders.{jobs_in, recorded, fresh}
 use Rattle.smk_plan.proofs.Plans.{with_targets, a_member}
 use Rattle.smk_drive.proofs.Turns.{reader, event, put}
-use Rattle.smk_drive_target.specs.Lawful.{Lawful}
-use Rattle.smk_drive_target.specs.Reports.{IsFront}
+use Rattle.smk_drive_course.specs.Lawful.{Lawful}
+use Rattle.smk_drive_course.specs.RunReports.{IsFront}
 use Rattle.smk_drive_rows.proofs.Logs.{IsSettled, last, last_is}
 use Rattle.smk_drive_rows.proofs.Checker.{IsChecked, started}
 use Rattle.smk_drive_rows.proofs.Keeping.{Keeps}

@@ -18,8 +18,8 @@ use Rattle.smk_flow.proofs.Examples.{temporary_with, copying, flow_of, cat}
 use Rattle.smk_chain.proofs.Folders.{jobs_in, fresh}
 use Rattle.smk_plan.proofs.Plans.{with_targets, u_and_v, temporary_records}
 use Rattle.smk_drive.proofs.Turns.{reader, event}
-use Rattle.smk_drive_target.specs.Keeping.{KeepsOutputs, IsSettled as IsSettledAt, has_start}
-use Rattle.smk_drive_target.specs.Reports.{IsRunText}
+use Rattle.smk_drive_course.specs.Keeping.{KeepsOutputs, IsSettled as IsSettledAt, has_start}
+use Rattle.smk_drive_course.specs.RunReports.{IsRunText}
 use Rattle.smk_drive_rows.proofs.Logs.{IsSettled, first_moment, first_is}
 use Rattle.smk_drive_rows.proofs.Checker.{IsChecked}
 use Rattle.smk_drive_rows.proofs.Keeping.{Keeps}

@@ -15,7 +15,7 @@ use Rattle.smk_plan.proofs.Plans.{aggregated as its_targets}
 use Rattle.smk_drive.proofs.Turns.{reader}
 use Rattle.smk_drive.specs.Moments.{Moment, Rules, staged_now}
 use Rattle.smk_plan.specs.States.{job_path}
-use Rattle.smk_drive_target.specs.Lawful.{Lawful}
+use Rattle.smk_drive_course.specs.Lawful.{Lawful}
 use Rattle.smk_drive_rows.proofs.Logs.{IsSettled, first_moment, first_is}
 use Rattle.smk_drive_rows.proofs.Events.{formed_of, marking, rules_by}
 use Rattle.smk_drive_rows.proofs.GrowRow.{folder, records}

@@ -9,8 +9,8 @@ use Rattle.smk_drive.specs.Moments.{Rules}
 use Rattle.smk_flow.proofs.Examples.{copy, copy_with, cp}
 use Rattle.smk_plan.proofs.Plans.{out_txt, copy_records}
 use Rattle.smk_drive.proofs.Turns.{reader}
-use Rattle.smk_drive_target.specs.Lawful.{Lawful}
-use Rattle.smk_drive_target.specs.Reports.{IsRunText}
+use Rattle.smk_drive_course.specs.Lawful.{Lawful}
+use Rattle.smk_drive_course.specs.RunReports.{IsRunText}
 use Rattle.smk_drive_rows.proofs.Truth.{not_empty}
 use Rattle.smk_drive_rows.proofs.Logs.{IsSettled, first_moment, first_is, last, last_is}
 use Rattle.smk_drive_rows.proofs.Checker.{IsChecked}

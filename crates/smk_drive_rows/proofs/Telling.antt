@@ -7,7 +7,7 @@ use Rattle.smk_world.specs.World.{World, IsFormed}
 use Rattle.smk_pattern.specs.Shapes.{Text}
 use Rattle.smk_drive.specs.Moments.{Rules, Moment}
 use Rattle.smk_drive.specs.Reports.{HasLines, NoLines, AndThen, start_lines, close_lines, target_lines}
-use Rattle.smk_drive_target.specs.Reports.{IsRunText, HasLine, summary}
+use Rattle.smk_drive_course.specs.RunReports.{IsRunText, HasLine, summary}
 use Rattle.smk_drive_rows.proofs.Truth.{nil_right, moved, and_left, or_left, or_right}
 use Rattle.smk_drive_rows.proofs.Logs.{IsSettled, AreSettled, IsAt, first_moment, first_at, next, next_is, settled_later, last, last_is}
 

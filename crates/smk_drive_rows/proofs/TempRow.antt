@@ -20,9 +20,9 @@ use Rattle.smk_flow.proofs.Examples.{temporary_with, cat}
 use Rattle.smk_chain.proofs.Folders.{jobs_in, recorded, fresh}
 use Rattle.smk_plan.proofs.Plans.{with_targets}
 use Rattle.smk_drive.proofs.Turns.{reader, event}
-use Rattle.smk_drive_target.specs.Lawful.{Lawful}
-use Rattle.smk_drive_target.specs.Keeping.{IsSettled as IsSettledAt}
-use Rattle.smk_drive_target.specs.Reports.{IsRunText}
+use Rattle.smk_drive_course.specs.Lawful.{Lawful}
+use Rattle.smk_drive_course.specs.Keeping.{IsSettled as IsSettledAt}
+use Rattle.smk_drive_course.specs.RunReports.{IsRunText}
 use Rattle.smk_drive_rows.proofs.Logs.{IsSettled, last, last_is}
 use Rattle.smk_drive_rows.proofs.Checker.{IsChecked, started}
 use Rattle.smk_drive_rows.proofs.Keeping.{Keeps}

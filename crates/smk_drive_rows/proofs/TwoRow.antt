@@ -12,8 +12,8 @@ use Rattle.smk_drive.specs.Refusals.{DerivationRefuses}
 use Rattle.smk_flow.proofs.Examples.{unordered}
 use Rattle.smk_plan.proofs.Plans.{with_targets}
 use Rattle.smk_drive.proofs.Turns.{reader}
-use Rattle.smk_drive_target.specs.Lawful.{Lawful}
-use Rattle.smk_drive_target.specs.Refusals.{RunRefuses, PlansAreRefused}
+use Rattle.smk_drive_course.specs.Lawful.{Lawful}
+use Rattle.smk_drive_course.specs.Refusals.{RunRefuses, PlansAreRefused}
 use Rattle.smk_drive_rows.proofs.Logs.{IsSettled, first_moment, first_is}
 use Rattle.smk_drive_rows.proofs.Unrefused.{none_before}
 use Rattle.smk_drive_rows.proofs.Events.{formed_of, rules_by, marking}

@@ -11,9 +11,9 @@ use Rattle.smk_report.specs.declared.fault.Fault.{Fault}
 use Rattle.smk_drive.specs.Moments.{Rules, Moment, IsMoment, AtEntry, AtRest, Between, begins, begun_of, serial_of, is_rest, staged_now}
 use Rattle.smk_drive.specs.Lawful.{first_of}
 use Rattle.smk_drive.specs.Refusals.{record_length}
-use Rattle.smk_drive_target.specs.Lawful.{may_start}
-use Rattle.smk_drive_target.specs.Refusals.{MomentRefuses, PlansAreRefused, NoSerial, LongRecord, NoneBefore, RunRefuses, BeginsUnrefused}
-use Rattle.smk_drive_target.proofs.OneMoment.{one_moment}
+use Rattle.smk_drive_course.specs.Lawful.{may_start}
+use Rattle.smk_drive_course.specs.Refusals.{MomentRefuses, PlansAreRefused, NoSerial, LongRecord, NoneBefore, RunRefuses, BeginsUnrefused}
+use Rattle.smk_drive_course.proofs.OneMoment.{one_moment}
 use Rattle.smk_drive_rows.proofs.Truth.{and_left, and_right, not_both, nil_right, moved, head_same, tail_same, no_split, split_last, each_true}
 use Rattle.smk_drive_rows.proofs.Chains.{is_free, none_refused, IsSettled as IsSettledChain}
 use Rattle.smk_drive_rows.proofs.Logs.{IsSettled, AreSettled, IsAt, first_moment, first_at, next, next_is, settled_later, all_events, by_tests_at, last, last_whole}

@@ -1,2 +1,2 @@
-//! Worked logs that try what a run's log is to be: good ones, held against every clause, and wrong ones, each refused by one.
+//! Worked logs, steps and calls that try the definitions of a run: good ones, held against every clause, and wrong ones, each refused by one.
 #![tactic(auto)]

@@ -10,9 +10,9 @@ use Rattle.smk_run.specs.Reports.{HasReported, IsReport}
 use Rattle.smk_run.specs.Runs.{is_output}
 use Rattle.smk_plan_live.specs.declared.live.LivePlan.{LivePlan}
 use Rattle.smk_laws_turns.specs.Hubs.{Parts}
-use Rattle.smk_laws_gone.specs.Ended.{IsAllMade}
-use Rattle.smk_laws_gone.specs.Whole.{HasConcluded}
-use Rattle.smk_laws_gone.proofs.Concluding.{made_unless, told_so, unput_so, untold_so}
+use Rattle.smk_laws_begins.specs.Ended.{IsAllMade}
+use Rattle.smk_laws_begins.specs.Whole.{HasConcluded}
+use Rattle.smk_laws_begins.proofs.Concluding.{made_unless, told_so, unput_so, untold_so}
 use Rattle.smk_drive_run.specs.Keeping.{HasTold, closing_text, end_by, is_all_made}
 
 pub untold_by : (targets : List Path) (live : LivePlan) (tally : Tally) (p : Sunk) → HasTold targets live tally (Err fault.OutOfMemory) p p

@@ -5,7 +5,7 @@ use Rattle.smk_chain.specs.declared.jobs.Jobs.{Jobs}
 use Rattle.smk_chain.specs.declared.jobs.Maker.{Maker}
 use Rattle.smk_plan_live.specs.declared.base.Base.{Base}
 use Rattle.smk_plan_live.specs.Now.{known_now, seen_now}
-use Rattle.smk_laws_gone.specs.Sources.{are_made_or_seen, is_made_or_seen}
+use Rattle.smk_laws_begins.specs.Sources.{are_made_or_seen, is_made_or_seen}
 
 pub seen_by :
     (b base : Base) (js : Jobs) (makers : List Maker) (are : Bool) →

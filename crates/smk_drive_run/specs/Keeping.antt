@@ -16,8 +16,8 @@ use Rattle.smk_drive_first.specs.declared.opening.Opened.{Opened}
 use Rattle.smk_laws_turns.specs.Hubs.{Parts}
 use Rattle.smk_drive_hub.specs.declared.hub.Hub.{Hub}
 use Rattle.smk_drive_hub.specs.Keeping.{IsAtStart, parts_of}
-use Rattle.smk_laws_gone.specs.Sources.{are_made_or_seen}
-use Rattle.smk_laws_gone.specs.Whole.{HasConcluded}
+use Rattle.smk_laws_begins.specs.Sources.{are_made_or_seen}
+use Rattle.smk_laws_begins.specs.Whole.{HasConcluded}
 
 -- ## The start
 

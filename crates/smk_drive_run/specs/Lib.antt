@@ -1,1 +1,2 @@
+pub mod LoopKeeping
 pub mod Keeping

@@ -2,7 +2,7 @@
 
 ghost use Rattle.std.specs.Prelude.{◌≡◌, IfOk};
 ghost use Rattle.smk_drive_hub.specs.Keeping.{parts_of};
-ghost use Rattle.smk_laws_gone.specs.Whole.{HasBegunRun};
+ghost use Rattle.smk_laws_begins.specs.Whole.{HasBegunRun};
 ghost use Rattle.smk_drive_run.specs.Keeping.{IsStartOf, parts_in};
 
 use crate::sources::are_made_or_seen;

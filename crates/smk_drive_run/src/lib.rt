@@ -4,7 +4,9 @@
 mod driving;
 mod ending;
 mod entering;
+mod looping;
 mod sources;
+mod spending;
 
 pub use driving::drive;
 pub use smk_drive_course::End;

@@ -4,7 +4,7 @@ ghost use Rattle.std.specs.Prelude.{◌≡◌, true, IfOk};
 ghost use Rattle.std.specs.List.{list_all};
 ghost use Rattle.smk_world.specs.Trees.{is_path_text};
 ghost use Rattle.smk_plan_table.specs.Parts.{is_file_in};
-ghost use Rattle.smk_laws_gone.specs.Sources as spec;
+ghost use Rattle.smk_laws_begins.specs.Sources as spec;
 
 use smk_base::{OutOfMemory, PathText};
 use smk_chain::Maker;

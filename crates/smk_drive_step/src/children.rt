@@ -13,7 +13,7 @@ use std::alloc::Global;
 use std::mem;
 
 /// A job whose child runs.
-#[derive(Debug, Drop)]
+#[derive(Drop)]
 pub struct Child {
     /// All that it takes to close the job.
     pub going: Going,

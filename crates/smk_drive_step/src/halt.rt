@@ -6,7 +6,7 @@ ghost use Rattle.smk_drive_step.specs.Crews.{halted_by, is_device, or_later};
 use smk_report::Fault;
 
 /// The first fault that came, if any: no job begins after it. After one of the device children are waited for, and nothing else is done.
-#[derive(Debug, Drop)]
+#[derive(Drop)]
 pub struct Halt {
     pub(crate) fault: Option<Fault>,
     pub(crate) only_waits: bool,

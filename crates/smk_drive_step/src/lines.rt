@@ -12,7 +12,7 @@ use smk_run::write_out;
 use smk_world::{Failed, Sink};
 
 /// Whether lines still go to the sink: after one that couldn't be put, none does.
-#[derive(Debug, Drop)]
+#[derive(Drop)]
 pub struct Lines {
     pub(crate) goes_on: bool,
 }

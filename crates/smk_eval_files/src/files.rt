@@ -4,7 +4,7 @@ use smk_base::PathText;
 use smk_parse_tree::{Statement, Syntax};
 
 /// A file that was read.
-#[derive(Debug, Drop)]
+#[derive(Drop)]
 pub struct ReadFile {
     pub file: PathText,
     pub syntax: Syntax,

@@ -14,7 +14,7 @@ use smk_parse_tree::ItemForm;
 use std::alloc::{AllocError, Global};
 
 /// An item of logs that has a name.
-#[derive(Debug, Drop)]
+#[derive(Drop)]
 pub struct LogItem {
     /// The field of a command that stands for it, without its braces.
     pub field: Text,
@@ -25,14 +25,14 @@ pub struct LogItem {
 }
 
 /// A rule whose command names logs by their items.
-#[derive(Debug, Drop)]
+#[derive(Drop)]
 pub struct NamedRule {
     pub part: RulePart,
     pub logs: List<LogItem>,
 }
 
 /// The logs of a rule.
-#[derive(Debug, Drop)]
+#[derive(Drop)]
 pub(crate) struct Logs {
     /// The texts of all items, in order.
     pub(crate) texts: List<Text>,

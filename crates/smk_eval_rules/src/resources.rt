@@ -1,7 +1,7 @@
 use smk_base::{Amount, List, Pair};
 
 /// The resources of a rule.
-#[derive(Debug, Drop)]
+#[derive(Drop)]
 pub(crate) struct Resources {
     /// Those that are counted.
     pub(crate) amounts: List<Amount>,

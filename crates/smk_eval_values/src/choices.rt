@@ -3,7 +3,7 @@
 use smk_base::{List, Text};
 
 /// The values of a name, in order.
-#[derive(Debug, Drop)]
+#[derive(Drop)]
 pub struct Choices {
     pub name: Text,
     pub values: List<Text>,

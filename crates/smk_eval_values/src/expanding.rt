@@ -15,7 +15,7 @@ use smk_base::{List, OutOfMemory, Text};
 use std::alloc::Global;
 
 /// Why `expand` gives no texts.
-#[derive(Debug, Drop)]
+#[derive(Drop)]
 pub enum ExpandFault {
     /// This name in a pattern has no values, and isn't to stay as it is.
     UnknownName(Text),

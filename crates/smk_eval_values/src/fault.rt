@@ -8,7 +8,7 @@ use smk_base::{OutOfMemory, Text};
 use std::alloc::{AllocError, AllocFailed};
 
 /// Why an expression has no value.
-#[derive(Debug, Drop)]
+#[derive(Drop)]
 pub enum ValueFault {
     /// A value of a kind that doesn't stand there. The word is that of the flag, the sign, the call or the directive.
     BadFlag(Text),

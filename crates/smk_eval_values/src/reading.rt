@@ -9,7 +9,7 @@ use smk_template::first_brace;
 use std::alloc::Global;
 
 /// A piece of a pattern.
-#[derive(Debug, Drop)]
+#[derive(Drop)]
 pub(crate) enum Piece {
     /// A text that stands for itself.
     Plain(Text),

@@ -10,7 +10,7 @@ use smk_base::{List, OutOfMemory, Text};
 use std::alloc::{AllocError, Global};
 
 /// A sum so far. A text stands in a `String`, which grows in place.
-#[derive(Debug, Drop)]
+#[derive(Drop)]
 pub(crate) enum Total {
     Text(String),
     Value(Value),

@@ -3,7 +3,7 @@
 use smk_base::{List, Text};
 
 /// What an expression stands for.
-#[derive(Debug, Drop)]
+#[derive(Drop)]
 pub enum Value {
     Word(Text),
     Number(u64),
@@ -17,7 +17,7 @@ pub enum Value {
 }
 
 /// Texts with flags.
-#[derive(Debug, Drop)]
+#[derive(Drop)]
 pub struct Flagged {
     /// The words of the flags, the outermost first; one at least.
     pub flags: List<Text>,
@@ -27,7 +27,7 @@ pub struct Flagged {
 }
 
 /// A checkpoint's name, what is listed in its directory, and what is wanted for each path of the listing.
-#[derive(Debug, Drop)]
+#[derive(Drop)]
 pub struct Gathered {
     pub checkpoint: Text,
     pub listed: Text,

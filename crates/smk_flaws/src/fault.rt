@@ -6,7 +6,7 @@ use smk_flow::FlowFault;
 use std::alloc::{AllocError, AllocFailed};
 
 /// Why files aren't read.
-#[derive(Debug, Drop)]
+#[derive(Drop)]
 pub enum FileFault {
     /// A file is wrong.
     Flawed(FileFlaw),
@@ -17,7 +17,7 @@ pub enum FileFault {
 }
 
 /// Why files say no workflow.
-#[derive(Debug, Drop)]
+#[derive(Drop)]
 pub enum EvalFault {
     /// What they say is wrong.
     Flawed(SaidFlaw),
@@ -26,7 +26,7 @@ pub enum EvalFault {
 }
 
 /// Why a working folder has no workflow.
-#[derive(Debug, Drop)]
+#[derive(Drop)]
 pub enum LoadFault {
     /// Its workflow is wrong.
     Flawed(Flaw),

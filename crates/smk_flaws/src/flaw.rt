@@ -5,7 +5,7 @@ use smk_eval_values::ValueFault;
 use smk_flow::FlowFault;
 
 /// What is wrong with a file, and in which line.
-#[derive(Debug, Drop)]
+#[derive(Drop)]
 pub enum FileFlaw {
     /// The indentation of the line fits none above.
     BadIndent { file: Text, line: u64 },
@@ -28,7 +28,7 @@ pub enum FileFlaw {
 }
 
 /// What is wrong with what files say.
-#[derive(Debug, Drop)]
+#[derive(Drop)]
 pub enum SaidFlaw {
     /// An expression of the statement has no value. The line is the statement's first, and the rule is the empty text where it is none.
     Value {
@@ -42,7 +42,7 @@ pub enum SaidFlaw {
 }
 
 /// What is wrong with a workflow.
-#[derive(Debug, Drop)]
+#[derive(Drop)]
 pub enum Flaw {
     /// One of its files isn't read.
     File(FileFlaw),

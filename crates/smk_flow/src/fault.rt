@@ -2,7 +2,7 @@ use smk_base::{OutOfMemory, Text};
 use std::alloc::AllocFailed;
 
 /// Why rules make no workflow. A rule's file and line are those of its statement.
-#[derive(Debug, Drop)]
+#[derive(Drop)]
 pub enum FlowFault {
     /// The name was used above.
     DoubledRule {
@@ -57,7 +57,7 @@ pub enum FlowFault {
 }
 
 /// Why a rule and a binding make no job.
-#[derive(Debug, Drop)]
+#[derive(Drop)]
 pub enum JobFault {
     /// An output, a log, an input or a gathered directory would be this text, which isn't a path.
     NotPath(Text),
@@ -65,7 +65,7 @@ pub enum JobFault {
 }
 
 /// Why words are no targets.
-#[derive(Debug, Drop)]
+#[derive(Drop)]
 pub enum TargetFault {
     /// This word is neither a rule nor a path, or names a rule that has wildcards, or one that has a command and no outputs.
     BadTarget(Text),

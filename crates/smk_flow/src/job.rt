@@ -3,7 +3,7 @@ use smk_pattern::Pattern;
 use smk_world::Recipe;
 
 /// A rule with a value for each of its wildcards.
-#[derive(Debug, Drop)]
+#[derive(Drop)]
 pub struct Job {
     /// The rule's place in the workflow, from 0.
     pub rule: u32,
@@ -23,7 +23,7 @@ pub struct Job {
 }
 
 /// The item of inputs with this number, from 0, is gathered from this directory.
-#[derive(Debug, Drop)]
+#[derive(Drop)]
 pub struct Gather {
     pub item: u64,
     pub folder: PathText,

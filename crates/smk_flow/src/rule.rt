@@ -2,7 +2,7 @@ use smk_base::{Amount, List, Pair, PathText, Text};
 use smk_world::Values;
 
 /// A rule as it was read. Its texts are patterns, but those of `params` and `words`, in which only names in braces are filled.
-#[derive(Debug, Drop)]
+#[derive(Drop)]
 pub struct RulePart {
     pub name: Text,
     pub checkpoint: bool,
@@ -25,7 +25,7 @@ pub struct RulePart {
 }
 
 /// An item of inputs: texts, or what is gathered from a checkpoint. The name is empty where it has none.
-#[derive(Debug, Drop)]
+#[derive(Drop)]
 pub struct InPart {
     pub name: Text,
     pub texts: List<Text>,
@@ -33,7 +33,7 @@ pub struct InPart {
 }
 
 /// Inputs that follow from the files of a checkpoint's directory: `wanted`, filled by each file that fits `listed`.
-#[derive(Debug, Drop)]
+#[derive(Drop)]
 pub struct GatherPart {
     pub checkpoint: Text,
     pub listed: Text,
@@ -41,19 +41,19 @@ pub struct GatherPart {
 }
 
 /// An item of outputs. The name is empty where it has none.
-#[derive(Debug, Drop)]
+#[derive(Drop)]
 pub struct OutPart {
     pub name: Text,
     pub outs: List<FlaggedText>,
 }
 
-#[derive(Debug, Drop)]
+#[derive(Drop)]
 pub struct FlaggedText {
     pub text: Text,
     pub flags: List<Flag>,
 }
 
-#[derive(Clone, Copy, Debug, PartialEq, Eq)]
+#[derive(Clone, Copy, PartialEq, Eq)]
 pub enum Flag {
     Temp,
     Protected,
@@ -61,7 +61,7 @@ pub enum Flag {
 }
 
 /// Rules by name, the preferred ones first.
-#[derive(Debug, Drop)]
+#[derive(Drop)]
 pub struct Clause {
     pub names: List<Text>,
     pub file: PathText,

@@ -14,14 +14,14 @@ use std::alloc::Global;
 use std::marker::Model;
 
 /// The patterns of a rule's outputs and of its logs, in order.
-#[derive(Debug, Drop)]
+#[derive(Drop)]
 pub struct Patterns {
     pub outputs: List<Pattern>,
     pub logs: List<Pattern>,
 }
 
 /// A rule with the patterns of its outputs and of its logs, in order.
-#[derive(Debug, Drop)]
+#[derive(Drop)]
 pub struct Rule {
     pub part: RulePart,
     pub outputs: List<Pattern>,
@@ -29,7 +29,7 @@ pub struct Rule {
 }
 
 /// A checked workflow.
-#[derive(Debug, Drop)]
+#[derive(Drop)]
 pub struct Workflow {
     rules: List<Rule>,
     orders: List<Clause>,

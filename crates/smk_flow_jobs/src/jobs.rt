@@ -18,7 +18,7 @@ use smk_world::{Item, OutItem, Recipe};
 use std::alloc::Global;
 
 /// What of a job has paths.
-#[derive(Debug, Drop)]
+#[derive(Drop)]
 struct Placed {
     outputs: List<OutItem>,
     logs: List<PathText>,

@@ -4,7 +4,7 @@ use smk_base::{OutOfMemory, Text};
 use std::alloc::AllocError;
 
 /// Why a job has no command.
-#[derive(Debug, Drop)]
+#[derive(Drop)]
 pub enum FormatFault {
     /// The field, as it is written, has no value; or the brace belongs to none.
     UnknownField(Text),

@@ -8,7 +8,7 @@ ghost use Rattle.smk_format.specs.Found.{pick_of};
 use std::str;
 
 /// Which values a field asks for.
-#[derive(Clone, Copy, Debug)]
+#[derive(Clone, Copy)]
 pub(crate) enum Pick<'f> {
     All,
     /// Those of the item with this name.

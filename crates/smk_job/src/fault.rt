@@ -2,7 +2,7 @@ use smk_base::{OutOfMemory, PathText};
 use smk_world::Failed;
 
 /// Why a job doesn't begin.
-#[derive(Clone, Copy, Debug, PartialEq, Eq)]
+#[derive(Clone, Copy, PartialEq, Eq)]
 pub enum BeginFault {
     /// A record of the job would have so many bytes without its members, which is more than 1,048,576.
     TooLong(u64),
@@ -34,7 +34,7 @@ impl From<Failed> for BeginFault {
 }
 
 /// Why a job isn't done, though its command ended with status 0.
-#[derive(Debug, Drop)]
+#[derive(Drop)]
 pub enum CloseFault {
     /// Nothing stands at this output.
     NoOutput(PathText),

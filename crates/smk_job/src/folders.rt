@@ -18,7 +18,7 @@ use smk_world::{Files, Kind, Out, WorkFault};
 use std::alloc::Global;
 
 /// What a look at an output came to.
-#[derive(Debug, Drop)]
+#[derive(Drop)]
 pub(crate) enum Sight {
     /// It is as it should be: the bytes of its record, with its members.
     Good(Bytes),
@@ -27,7 +27,7 @@ pub(crate) enum Sight {
 }
 
 /// What looks at all outputs came to.
-#[derive(Debug, Drop)]
+#[derive(Drop)]
 pub(crate) enum View {
     /// The bytes of their records, with their members.
     Records(List<Bytes>),

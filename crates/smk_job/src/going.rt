@@ -7,7 +7,7 @@ use smk_world::{Out, Recipe};
 use std::marker::Model;
 
 /// All that it takes to begin a job and to close it.
-#[derive(Debug, Drop)]
+#[derive(Drop)]
 pub(crate) struct Ready {
     pub(crate) recipe: Recipe,
     pub(crate) logs: List<PathText>,
@@ -24,7 +24,7 @@ pub(crate) struct Ready {
 
 /// A job whose command runs, or has ended, with all that it takes to close it. Contracts see its recipe and logs, the stamps and the
 /// serial of its records, and the number of its child.
-#[derive(Debug, Drop)]
+#[derive(Drop)]
 pub struct Going {
     pub(crate) ready: Ready,
     pub(crate) number: u64,

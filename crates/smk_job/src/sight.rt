@@ -9,7 +9,7 @@ use smk_base::{List, PathText, Place};
 use smk_world::{Failed, Files, Kind, Out, Stat};
 
 /// What is wrong with an output that is to be a file.
-#[derive(Clone, Copy, Debug, PartialEq, Eq)]
+#[derive(Clone, Copy, PartialEq, Eq)]
 pub(crate) enum Wrong {
     /// Nothing is there.
     Absent,

@@ -3,7 +3,7 @@ use smk_report::Fault;
 use smk_store::StoreFault;
 
 /// Why not all paths were forgotten, or that wasn't told.
-#[derive(Debug, Drop)]
+#[derive(Drop)]
 pub enum ForgetFault {
     /// The lock stands.
     Locked,

@@ -1,7 +1,7 @@
 use smk_report::Fault;
 
 /// Why the lock wasn't removed, or that wasn't told.
-#[derive(Clone, Copy, Debug, PartialEq, Eq)]
+#[derive(Clone, Copy, PartialEq, Eq)]
 pub enum UnlockFault {
     /// A call of the device failed, and none came after it.
     Device,

@@ -12,7 +12,7 @@ use std::alloc::Global;
 use std::marker::Model;
 
 /// The lock of the working folder. Who has it at hand can take and release it without want of memory.
-#[derive(Debug, Drop)]
+#[derive(Drop)]
 pub struct Lock {
     places: List<Place>,
 }

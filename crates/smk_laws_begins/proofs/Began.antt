@@ -26,14 +26,14 @@ use Rattle.smk_drive_pick.specs.Picking.{AreAlike}
 use Rattle.smk_drive_step.specs.Beginning.{HasReadAndBegun}
 use Rattle.smk_drive_course.specs.Stands.{Stand, moment_of, with_job}
 use Rattle.smk_drive_course.specs.Steps.{Deed, IsToBegin, calls_of}
-use Rattle.smk_laws_folder.specs.Progressing.{IsStarted}
-use Rattle.smk_laws_folder.proofs.Agreeing.{begin_agrees}
-use Rattle.smk_laws_folder.proofs.Deriving.{derivation_goes_on}
-use Rattle.smk_laws_folder.proofs.Progressing.{begins_alike}
+use Rattle.smk_laws_turns.specs.Progressing.{IsStarted}
+use Rattle.smk_laws_turns.proofs.Agreeing.{begin_agrees}
+use Rattle.smk_laws_turns.proofs.Deriving.{derivation_goes_on}
+use Rattle.smk_laws_turns.proofs.Progressing.{begins_alike}
 use Rattle.smk_laws_turns.specs.Hubs.{IsAt, IsHome, IsKept, Parts, child_of}
 use Rattle.smk_laws_changes.proofs.Homes.{home_stays}
 use Rattle.smk_laws_changes.specs.Begun.{BeginDiffers, IsBegunFor}
-use Rattle.smk_laws_rest.specs.Resting.{IsResting}
+use Rattle.smk_laws_turns.specs.Resting.{IsResting}
 use Rattle.smk_laws_begins.specs.Fitting.{IsFit}
 use Rattle.smk_laws_begins.specs.Begins.{MayTake}
 use Rattle.smk_laws_begins.proofs.Beside.{is_started, new_runs, other_name, still_runs}

@@ -18,9 +18,9 @@ use Rattle.smk_laws_plan.proofs.CurrentSame.{pointwise_same}
 use Rattle.smk_job.specs.Jobs.{Underway}
 use Rattle.smk_drive.specs.Moments.{Begun, is_child_of, progress_of, runs}
 use Rattle.smk_drive.specs.Lawful.{is_good_end}
-use Rattle.smk_laws_folder.specs.Progressing.{IsStarted, state_in}
-use Rattle.smk_laws_starting.proofs.Others.{has_begun}
-use Rattle.smk_laws_starting.proofs.Restoring.{unkept}
+use Rattle.smk_laws_turns.specs.Progressing.{IsStarted, state_in}
+use Rattle.smk_laws_moments.proofs.Others.{has_begun}
+use Rattle.smk_laws_moments.proofs.Restoring.{unkept}
 use Rattle.smk_laws_turns.specs.Hubs.{AreOnce, AreOpen, child_of}
 
 -- ## Lists

@@ -19,7 +19,7 @@ use Rattle.smk_store.specs.Trust.{content_stamp, is_summed, stamp_now, sum_of}
 use Rattle.smk_plan.specs.Summed.{has_other_time}
 use Rattle.smk_laws_plan.proofs.CurrentMeaning.{source_stamp}
 use Rattle.smk_laws_protocol.proofs.Basics.{each_of}
-use Rattle.smk_laws_starting.proofs.Keeping.{zip_now}
+use Rattle.smk_laws_moments.proofs.Keeping.{zip_now}
 use Rattle.smk_job.specs.Jobs.{Underway}
 use Rattle.smk_laws_turns.specs.Hubs.{child_of}
 

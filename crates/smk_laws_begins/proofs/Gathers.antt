@@ -18,10 +18,10 @@ use Rattle.smk_laws_protocol.proofs.Basics.{each_of}
 use Rattle.smk_drive.specs.Moments.{IsInForce, Rules, progress_of, seen}
 use Rattle.smk_drive_course.specs.Stands.{Stand}
 use Rattle.smk_drive_course.specs.Steps.{IsNext}
-use Rattle.smk_laws_staying.specs.Staying.{IsListed}
-use Rattle.smk_laws_staying.proofs.Gathered.{at_hand_is_listed}
-use Rattle.smk_laws_staying.proofs.StandsOn.{last_done}
-use Rattle.smk_laws_starting.proofs.Next.{IsStarting, starting}
+use Rattle.smk_laws_moments.specs.Staying.{IsListed}
+use Rattle.smk_laws_moments.proofs.Gathered.{at_hand_is_listed}
+use Rattle.smk_laws_moments.proofs.StandsOn.{last_done}
+use Rattle.smk_laws_moments.proofs.Next.{IsStarting, starting}
 
 same_some : (x y : Plan) → Some x ≡ Some y → x ≡ y
 same_some x y h = cc

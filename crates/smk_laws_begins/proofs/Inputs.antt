@@ -23,7 +23,7 @@ use Rattle.smk_laws_plan.proofs.CurrentProducts.{Planned, ReachedHere}
 use Rattle.smk_laws_plan.proofs.CurrentReach.{choice_known}
 use Rattle.smk_laws_plan.proofs.PlanOne.{job_makes}
 use Rattle.smk_laws_history.proofs.CurrentReads.{wanted_comes}
-use Rattle.smk_laws_starting.proofs.Inputs.{maker_is, state_in}
+use Rattle.smk_laws_moments.proofs.Inputs.{maker_is, state_in}
 use Rattle.smk_laws_begins.proofs.Stamped.{IsClearInput, IsProduct, IsSource}
 
 -- two options of which the first is there

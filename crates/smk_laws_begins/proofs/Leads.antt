@@ -44,9 +44,9 @@ use Rattle.smk_laws_turns.proofs.Going.{goes_on_from, rests_there}
 use Rattle.smk_laws_turns.proofs.Turning.{beginning_leads}
 use Rattle.smk_laws_changes.proofs.RoomToBegin.{room_begun}
 use Rattle.smk_laws_changes.specs.Begun.{BeginDiffers}
-use Rattle.smk_laws_rest.specs.Resting.{HasGoneBy, IsTold}
-use Rattle.smk_laws_rest.proofs.Answered.{rest_goes_by}
-use Rattle.smk_laws_rest.proofs.Rests.{any_is_replanned}
+use Rattle.smk_laws_turns.specs.Resting.{HasGoneBy, IsTold}
+use Rattle.smk_laws_turns.proofs.Answered.{rest_goes_by}
+use Rattle.smk_laws_turns.proofs.Rests.{any_is_replanned}
 use Rattle.smk_laws_begins.specs.Fitting.{IsFit}
 use Rattle.smk_laws_begins.specs.Noting.{HasNoted}
 use Rattle.smk_laws_begins.specs.Begins.{MayTake}

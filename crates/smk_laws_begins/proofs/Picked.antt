@@ -18,13 +18,13 @@ use Rattle.smk_plan.specs.States.{staged}
 use Rattle.smk_plan_live.specs.Lives.{IsAgreed}
 use Rattle.smk_drive.specs.Moments.{Moment, Rules, seen}
 use Rattle.smk_drive.specs.Lawful.{ask_of, first_of, goes_on, running_jobs}
-use Rattle.smk_drive_target.specs.Lawful.{may_start}
+use Rattle.smk_drive_course.specs.Lawful.{may_start}
 use Rattle.smk_drive_pick.specs.Picking.{AreToldOf, may_begin, plan_of, wrapped}
 use Rattle.smk_drive_course.specs.Stands.{Stand, moment_of}
 use Rattle.smk_drive_course.specs.Steps.{Deed}
-use Rattle.smk_laws_pick.specs.Picked.{judging_at}
-use Rattle.smk_laws_pick.proofs.Judged.{judged_as_kept}
-use Rattle.smk_laws_pick.proofs.Picked.{may_start_as_kept}
+use Rattle.smk_laws_begins.specs.Picked.{judging_at}
+use Rattle.smk_laws_begins.proofs.Judged.{judged_as_kept}
+use Rattle.smk_laws_begins.proofs.PickedOf.{may_start_as_kept}
 use Rattle.smk_laws_turns.specs.Hubs.{IsAt, IsKept, Parts}
 use Rattle.smk_laws_begins.specs.Begins.{IsNextAs, MayTake, PickedIsNext}
 

@@ -21,8 +21,8 @@ use Rattle.smk_report.specs.declared.fault.Fault.TheVariants as fault
 use Rattle.smk_job.specs.Jobs.{bare_bytes, is_long, too_long}
 use Rattle.smk_drive.specs.Moments.{Begun, Rules, begun_of, seen, serial_of}
 use Rattle.smk_drive.specs.Refusals.{record_length}
-use Rattle.smk_drive_target.specs.Refusals.{LongRecord, NoSerial}
-use Rattle.smk_drive_target.specs.Refusals as target
+use Rattle.smk_drive_course.specs.Refusals.{LongRecord, NoSerial}
+use Rattle.smk_drive_course.specs.Refusals as target
 use Rattle.smk_drive_course.specs.Stands.{Refuses, Stand, moment_of}
 use Rattle.smk_drive_course.specs.Steps.{IsNext}
 

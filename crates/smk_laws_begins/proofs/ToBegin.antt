@@ -30,7 +30,7 @@ use Rattle.smk_drive_step.specs.Beginning.{HasRead}
 use Rattle.smk_drive_step.specs.Stamping.{AreDigested}
 use Rattle.smk_drive_course.specs.Stands.{Stand, moment_of}
 use Rattle.smk_drive_course.specs.Steps.{Deed, IsNext, IsToBegin}
-use Rattle.smk_laws_starting.proofs.Next.{IsStarting, starting}
+use Rattle.smk_laws_moments.proofs.Next.{IsStarting, starting}
 use Rattle.smk_laws_turns.specs.Hubs.{IsAt, IsKept, Parts}
 use Rattle.smk_laws_begins.specs.Fitting.{IsFit, is_restored as is_restored_job, serial_of as serial_by}
 use Rattle.smk_laws_begins.specs.Begins.{MayTake}

@@ -1,3 +1,12 @@
+pub mod Picked
+pub mod Sweeping
+pub mod Opened
+pub mod Ended
+pub mod Gone
+pub mod Whole
+pub mod Standing
+pub mod Sources
+pub mod Stepping
 pub mod Fitting
 pub mod Noting
 pub mod Begins

@@ -21,7 +21,7 @@ use Rattle.smk_drive_step.specs.declared.children.Child.{Child}
 use Rattle.smk_drive_step.specs.Crews.{IsPutFor, is_device}
 use Rattle.smk_drive_hub.specs.Keeping.{heeded}
 use Rattle.smk_laws_turns.specs.Hubs.{Parts}
-use Rattle.smk_laws_rest.specs.Resting.{IsAnswerOf}
+use Rattle.smk_laws_turns.specs.Resting.{IsAnswerOf}
 use Rattle.smk_laws_begins.specs.Fitting.{next_after}
 
 -- ## The plan

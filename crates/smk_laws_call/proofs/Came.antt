@@ -13,7 +13,7 @@ use Rattle.smk_store.specs.Trust.{Versions, SumsDiffer}
 use Rattle.smk_laws_history.specs.Histories as histories
 use Rattle.smk_laws_history.specs.Histories.{History, DifferInSums, IsCall, IsHeld}
 use Rattle.smk_laws_history.proofs.HistoryLaw.{every_world_sound, fewer_differ, on_left, versions_differ}
-use Rattle.smk_laws_lock.proofs.Parts.{parts_are_call}
+use Rattle.smk_laws_refusing.proofs.Parts.{parts_are_call}
 use Rattle.smk_report.specs.declared.fault.Fault.{Fault}
 use Rattle.smk_words_reading.specs.declared.asked.Asked.{Asked as Request}
 use Rattle.smk_words_reading.specs.declared.asked.Asked.TheVariants.{Run, Forget}
@@ -35,14 +35,14 @@ use Rattle.smk_laws_keys.specs.Keys.{outside}
 use Rattle.smk_laws_keys.proofs.Moves.{EndsAt, lock_moves}
 use Rattle.smk_laws_keys.proofs.Safe.{cleaned_runs}
 use Rattle.smk_cli_calls.specs.Keys.{Keeps, NoMemory, Unlocks, Forgets}
-use Rattle.smk_exit.proofs.Clean.{run_leaves_all_clean}
+use Rattle.smk_safe.proofs.CleanAtExit.{run_leaves_all_clean}
 use Rattle.smk_clean.specs.Safe.{IsSafeCall}
 use Rattle.smk_clean.proofs.Serving.{call_is_safe}
 use Rattle.smk_clean.proofs.Ended.{drives_end}
 use Rattle.smk_clean.proofs.Ending.{call_is_clean, call_leaves_none}
 use Rattle.smk_clean.proofs.Again.{next_starts_nothing}
-use Rattle.smk_whole.proofs.Calling.{call_is_complete}
-use Rattle.smk_whole.proofs.Working.{same_events}
+use Rattle.smk_laws_call.proofs.Calling.{call_is_complete}
+use Rattle.smk_laws_call.proofs.Working.{same_events}
 use Rattle.smk_laws_call.specs.Headline.{IsCalled, IsKeptCall, Came, Begin, Edit, Remove, Call, Keep, Crash, CrashKeeping, HasHeld, SumsDifferIn, CameIsHistory, CameIsSound, Headline}
 use Rattle.smk_laws_call.specs.Started.{StartsOnFinished}
 use Rattle.smk_laws_call.proofs.Started.{parts_start_on_finished}

@@ -42,13 +42,13 @@ use Rattle.smk_run.specs.Turns.{Turn, is_closed, is_done}
 use Rattle.smk_safe.specs.Planned.{AreTurnsOf, IsPlain}
 use Rattle.smk_safe.proofs.Images.{source_of_both}
 use Rattle.smk_safe.proofs.Planned as by_plan
-use Rattle.smk_exit.specs.Exit.{IsDueRun, IsKept}
-use Rattle.smk_exit.proofs.Dues.{turns_of}
-use Rattle.smk_exit.proofs.Kept.{kept_jobs_stay_clean}
-use Rattle.smk_exit.proofs.Needed.{done_jobs_are_kept}
-use Rattle.smk_exit.proofs.Left as at_exit
-use Rattle.smk_exit.proofs.Base as base
-use Rattle.smk_exit.proofs.Table as table
+use Rattle.smk_safe.specs.Exit.{IsDueRun, IsKept}
+use Rattle.smk_safe.proofs.Dues.{turns_of}
+use Rattle.smk_safe.proofs.KeptAtExit.{kept_jobs_stay_clean}
+use Rattle.smk_safe.proofs.Needed.{done_jobs_are_kept}
+use Rattle.smk_safe.proofs.Left as at_exit
+use Rattle.smk_safe.proofs.Base as base
+use Rattle.smk_safe.proofs.Table as table
 
 -- ## Files
 

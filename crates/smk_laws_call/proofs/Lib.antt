@@ -1,3 +1,9 @@
+pub mod Grown
+pub mod Temps
+pub mod Drove
+pub mod Working
+pub mod Plain
+pub mod Calling
 pub mod Started
 pub mod Exit
 pub mod Turns

@@ -18,8 +18,8 @@ use Rattle.smk_laws_protocol.proofs.MidwayHolds.{holds_midway}
 use Rattle.smk_store.specs.Soundness.{SoundWorld}
 use Rattle.smk_store.specs.Trust.{Versions, SumsDiffer}
 use Rattle.smk_world.proofs.Runs.{run_append}
-use Rattle.smk_laws_lock.specs.Parts.{AreRuns, One, Then}
-use Rattle.smk_laws_lock.proofs.Parts.{follows_after, parts_are_safe, split_before}
+use Rattle.smk_laws_refusing.specs.Parts.{AreRuns, One, Then}
+use Rattle.smk_laws_refusing.proofs.Parts.{follows_after, parts_are_safe, split_before}
 use Rattle.smk_laws_call.specs.Started.{IsFinished, ASource, AnOutput, RunsStartOnFinished, StartsOnFinished}
 
 -- ## The state before an event

@@ -44,11 +44,11 @@ use Rattle.smk_cli_calls.specs.Serving.{Went, Refused, Stopped, Worked, Drove, s
 use Rattle.smk_cli_entry.specs.Entry.{IsAskedIn}
 use Rattle.smk_cli_calls.specs.Locking.{HasHeeded, Stood, Taken, Unmade, Untaken}
 use Rattle.smk_cli_calls.specs.Whole.{AsksFor, HasRun, Heeded, IsRefusal, IsToServe, Unasked, Unheeded}
-use Rattle.smk_laws_lock.specs.Heeding.{IsSameButLock}
-use Rattle.smk_laws_lock.proofs.Heeding.{lock_changes_itself_alone, on_both, same_back}
+use Rattle.smk_laws_refusing.specs.Heeding.{IsSameButLock}
+use Rattle.smk_laws_refusing.proofs.Heeding.{lock_changes_itself_alone, on_both, same_back}
 use Rattle.smk_safe.specs.Planned.{IsFit, IsPlain}
 use Rattle.smk_safe.proofs.Planned as by_plan
-use Rattle.smk_exit.specs.Exit.{IsDueRun}
+use Rattle.smk_safe.specs.Exit.{IsDueRun}
 use Rattle.smk_laws_plan.proofs.CurrentLists.{get_in, or_first}
 use Rattle.smk_laws_plan.proofs.CurrentPaths.{in_among}
 use Rattle.smk_laws_history.proofs.CurrentComplete.{seen_is_complete}
@@ -62,7 +62,7 @@ use Rattle.smk_clean.proofs.Told as told_of
 use Rattle.smk_laws_call.specs.Telling.{Tells, Nothing, Lines, DrivenLines, HasPutSo}
 use Rattle.smk_laws_call.proofs.Driven.{DroveTells, drove_tells}
 use Rattle.smk_laws_call.proofs.Exit.{targets_clean}
-use Rattle.smk_whole.proofs.Temps.{no_temps, one_by_one_has_no_temps}
+use Rattle.smk_laws_call.proofs.Temps.{no_temps, one_by_one_has_no_temps}
 use Rattle.smk_laws_call.proofs.Turns.{done_turn, has_turn}
 
 -- ## Fronts

@@ -29,8 +29,8 @@ use Rattle.smk_cli_calls.specs.Keys.{HasKept}
 use Rattle.smk_cli_calls.specs.Whole.{HasServed}
 use Rattle.smk_clean.specs.Again.{HasNoneLeft, StartsNothing}
 use Rattle.smk_clean.specs.Clean.{HasMadeClean}
-use Rattle.smk_whole.specs.Calls.{MayTell}
-use Rattle.smk_whole.specs.Complete.{setting_in}
+use Rattle.smk_laws_call.specs.Calls.{MayTell}
+use Rattle.smk_laws_call.specs.Complete.{setting_in}
 use Rattle.smk_laws_call.specs.Started.{StartsOnFinished}
 use Rattle.smk_laws_call.specs.Telling.{HasPutSo, Tells}
 

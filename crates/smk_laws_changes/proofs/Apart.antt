@@ -19,8 +19,8 @@ use Rattle.smk_laws_protocol.proofs.Basics.{none_of}
 use Rattle.smk_laws_plan.proofs.CurrentApart.{maker_found}
 use Rattle.smk_laws_plan.proofs.CurrentPaths.{in_among}
 use Rattle.smk_laws_plan.proofs.PlanOne.{derived_apart}
-use Rattle.smk_laws_starting.proofs.Spots.{has_output, no_source, owned, owned_between}
-use Rattle.smk_laws_starting.proofs.Spots as spots
+use Rattle.smk_laws_moments.proofs.Spots.{has_output, no_source, owned, owned_between}
+use Rattle.smk_laws_moments.proofs.Spots as spots
 use Rattle.smk_laws_turns.specs.Hubs.{IsAt, Parts}
 use Rattle.smk_laws_changes.proofs.Staff.{complete_entry}
 use Rattle.smk_laws_changes.proofs.Users as users

@@ -18,11 +18,11 @@ use Rattle.smk_laws_plan.proofs.CurrentLists.{in_either, in_left, in_right, map_
 use Rattle.smk_laws_protocol.proofs.Basics.{each_in}
 use Rattle.smk_run.proofs.Calls.{EachCall}
 use Rattle.smk_drive.specs.Moments.{Rules, seen}
-use Rattle.smk_laws_starting.proofs.Spots.{overlaps_above}
+use Rattle.smk_laws_moments.proofs.Spots.{overlaps_above}
 use Rattle.smk_laws_moments.specs.Owning.{sites}
-use Rattle.smk_laws_folder.specs.Off.{IsOff}
-use Rattle.smk_laws_folder.specs.Places.{IsSameUnder}
-use Rattle.smk_laws_folder.proofs.Off.{signs_are_off}
+use Rattle.smk_laws_turns.specs.Off.{IsOff}
+use Rattle.smk_laws_turns.specs.Places.{IsSameUnder}
+use Rattle.smk_laws_turns.proofs.Off.{signs_are_off}
 use Rattle.smk_laws_changes.proofs.ClosedCalls.{IsFree, IsOf, all_content, all_keep, content, none_within, within_of}
 use Rattle.smk_laws_changes.proofs.Touched.{touched}
 

@@ -12,10 +12,10 @@ use Rattle.smk_report.specs.declared.fault.Fault.{Fault}
 use Rattle.smk_report.specs.declared.fault.Fault.TheVariants as fault
 use Rattle.smk_drive.specs.Moments.{Begun, IsInForce, Rules, is_rest, progress_of, seen}
 use Rattle.smk_drive.specs.Refusals.{ChainRefuses}
-use Rattle.smk_drive_target.specs.Refusals.{LongRecord, NoSerial, PlansAreRefused}
+use Rattle.smk_drive_course.specs.Refusals.{LongRecord, NoSerial, PlansAreRefused}
 use Rattle.smk_drive_course.specs.Stands as stands
 use Rattle.smk_drive_course.specs.Stands.{GoesBy, IsClear, IsReplanned, Refuses, Stand, halted_by, lists, replanned}
-use Rattle.smk_laws_staying.specs.Staying.{IsListed}
+use Rattle.smk_laws_moments.specs.Staying.{IsListed}
 use Rattle.smk_laws_changes.specs.Guarded.{IsGuardedSince, PlanBeforeGuarding}
 use Rattle.smk_laws_changes.proofs.Bridge.{chain_after, force_after, guarded_back, progress_same, rest_same, sources_after}
 

@@ -18,7 +18,7 @@ use Rattle.smk_laws_plan.proofs.CurrentPaths.{in_among}
 use Rattle.smk_laws_protocol.proofs.Basics.{each_in, each_of}
 use Rattle.smk_laws_moments.specs.Owning.{sites}
 use Rattle.smk_laws_courses.proofs.Requests.{settles_apart}
-use Rattle.smk_laws_folder.specs.Off.{IsOff}
+use Rattle.smk_laws_turns.specs.Off.{IsOff}
 use Rattle.smk_laws_changes.proofs.BegunCalls.{AreFree, IsCallAt, both_false}
 use Rattle.smk_laws_changes.proofs.JobPaths.{owned}
 use Rattle.smk_laws_changes.proofs.Ours.{within_some}

@@ -27,11 +27,11 @@ use Rattle.smk_laws_job.proofs.Owned.{known_marking}
 use Rattle.smk_run.proofs.Calls.{done_each}
 use Rattle.smk_laws_plan.proofs.CurrentLists.{in_left, in_map, in_right}
 use Rattle.smk_laws_protocol.proofs.Basics.{each_in, each_of}
-use Rattle.smk_made.proofs.Kept.{within_outside}
+use Rattle.smk_safe.proofs.Kept.{within_outside}
 use Rattle.smk_drive.specs.Moments.{Rules, seen}
 use Rattle.smk_laws_moments.proofs.QuietCalls.{IsQuiet, clears_quiet, marks_quiet, more, quiet_children}
-use Rattle.smk_laws_folder.specs.Places.{IsSameUnder}
-use Rattle.smk_laws_folder.proofs.Carrying.{by_test}
+use Rattle.smk_laws_turns.specs.Places.{IsSameUnder}
+use Rattle.smk_laws_turns.proofs.Carrying.{by_test}
 use Rattle.smk_laws_changes.proofs.BeginCalls.{begin_at, mark_kept, marking, outs, signs_inside, touched}
 use Rattle.smk_laws_changes.proofs.BegunCalls.{AreFree, IsCallAt, calls_keep_files, calls_leave, within_both}
 use Rattle.smk_laws_changes.proofs.JobPaths.{owned}

@@ -28,8 +28,8 @@ use Rattle.smk_drive_course.specs.Steps.{Deed, IsToBegin}
 use Rattle.smk_laws_moments.proofs.ChildrenOf.{run_more}
 use Rattle.smk_laws_moments.proofs.LooksLike.{IsLike, like_looks}
 use Rattle.smk_laws_courses.proofs.BeginningOf.{starting}
-use Rattle.smk_laws_folder.specs.Agreeing.{IsBegunOutput}
-use Rattle.smk_laws_folder.specs.Changing.{DiffersAt}
+use Rattle.smk_laws_turns.specs.Agreeing.{IsBegunOutput}
+use Rattle.smk_laws_turns.specs.Changing.{DiffersAt}
 use Rattle.smk_laws_turns.specs.Hubs.{IsAt, Parts, plan_of}
 use Rattle.smk_laws_changes.specs.Begun.{BeginDiffers, IsBegunFor, JobsAreOfEntry}
 use Rattle.smk_laws_changes.proofs.BegunFor.{begun_for}

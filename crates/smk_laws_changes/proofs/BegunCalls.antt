@@ -17,7 +17,7 @@ use Rattle.smk_world.specs.Trees.{Each, IsIn, Path}
 use Rattle.smk_world.specs.World.{World, after, firm, going, is_above, is_within, loose, node_after, owned_paths, reading, reads_folder, reads_nothing, run, standing, with_flag, with_folder}
 use Rattle.smk_store.specs.Images.{content_of}
 use Rattle.smk_run.proofs.Calls.{EachCall}
-use Rattle.smk_laws_folder.specs.Places.{IsSameUnder}
+use Rattle.smk_laws_turns.specs.Places.{IsSameUnder}
 
 -- the call changes nothing, or is at one of these places; or it starts a child that owns none but these
 abbrev pub IsCallAt : List Path → Request → Type 0

@@ -28,10 +28,10 @@ use Rattle.smk_laws_plan.proofs.CurrentLists.{in_either, in_left, in_right}
 use Rattle.smk_laws_plan.proofs.CurrentPaths.{among_in}
 use Rattle.smk_laws_protocol.proofs.Basics.{each_in}
 use Rattle.smk_drive.specs.Moments.{Rules, is_gone, seen}
-use Rattle.smk_laws_folder.specs.Agreeing.{IsBegunOutput}
-use Rattle.smk_laws_folder.specs.Changing.{NeedsNoMore}
+use Rattle.smk_laws_turns.specs.Agreeing.{IsBegunOutput}
+use Rattle.smk_laws_turns.specs.Changing.{NeedsNoMore}
 use Rattle.smk_laws_plan.specs.Signs.{HasOwnSigns}
-use Rattle.smk_laws_folder.proofs.Carrying.{by_test}
+use Rattle.smk_laws_turns.proofs.Carrying.{by_test}
 use Rattle.smk_laws_turns.specs.Hubs.{IsOurs, IsSigned}
 use Rattle.smk_laws_changes.specs.Begun.{IsBegunFor}
 use Rattle.smk_laws_changes.specs.Differing.{AreOfEntry, ChangesAt, LeavesOthers}

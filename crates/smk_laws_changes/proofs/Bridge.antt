@@ -26,8 +26,8 @@ use Rattle.smk_report.specs.declared.fault.Fault.TheVariants as fault
 use Rattle.smk_drive.specs.Moments.{Begun, IsInForce, Rules, is_child_of, is_gone, is_rest, progress_of, seen}
 use Rattle.smk_drive.specs.Refusals.{ChainRefuses, DerivationRefuses, NextRefuses, PlanRefuses, above_limit, ahead}
 use Rattle.smk_drive.specs.Refusals.{guarded, incomplete, is_ahead, is_running, of_command, refused_of, unless_empty}
-use Rattle.smk_laws_starting.proofs.Spots.{owned, owned_between}
-use Rattle.smk_laws_staying.specs.Staying.{IsListed}
+use Rattle.smk_laws_moments.proofs.Spots.{owned, owned_between}
+use Rattle.smk_laws_moments.specs.Staying.{IsListed}
 use Rattle.smk_laws_courses.proofs.Flags.{IsAsBare, bare, force_there}
 use Rattle.smk_laws_changes.specs.Guarded.{IsGuardedSince, bare_node}
 use Rattle.smk_laws_changes.proofs.Bare.{derivation_moves, listings_move, marked, plan_moves, sources_move}

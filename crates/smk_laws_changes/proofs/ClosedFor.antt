@@ -17,7 +17,7 @@ use Rattle.smk_laws_plan.proofs.CurrentLists.{in_left, in_right}
 use Rattle.smk_laws_plan.proofs.CurrentPaths.{among_in, in_among}
 use Rattle.smk_laws_protocol.proofs.Basics.{each_of, in_filter}
 use Rattle.smk_job.specs.Jobs.{Underway, underway}
-use Rattle.smk_made.proofs.Kept.{AreDifferent, apart_differ, differ_first}
+use Rattle.smk_safe.proofs.Kept.{AreDifferent, apart_differ, differ_first}
 use Rattle.smk_run.specs.Closings.{wait_event}
 use Rattle.smk_run.proofs.Calls.{EachCall}
 use Rattle.smk_drive.specs.Moments.{Rules, is_gone, seen}

@@ -13,7 +13,7 @@ use Rattle.smk_job.specs.Jobs.{Underway, abandon_requests, bytes_with, finish_re
 use Rattle.smk_job.specs.declared.fault.CloseFault.{CloseFault}
 use Rattle.smk_job.specs.Sights.{HasFinished, HasSeen, IsSeenWrong}
 use Rattle.smk_job.proofs.Single.{IsKnown, done_reaches}
-use Rattle.smk_made.proofs.Kept.{AreDifferent}
+use Rattle.smk_safe.proofs.Kept.{AreDifferent}
 use Rattle.smk_run.proofs.Calls.{EachCall, seen_each, wrong_each}
 use Rattle.smk_laws_changes.proofs.ClosedCalls.{IsOf, all_keep}
 use Rattle.smk_laws_changes.proofs.Touched.{looks_of}

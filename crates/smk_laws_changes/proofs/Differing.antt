@@ -18,7 +18,7 @@ use Rattle.smk_chain.specs.declared.jobs.Jobs.{Jobs}
 use Rattle.smk_trigger.specs.Reasons.{held}
 use Rattle.smk_plan.specs.Summed.{needs_sum, records_by}
 use Rattle.smk_plan_facts.specs.Facts.{told_sources}
-use Rattle.smk_exit.proofs.Same.{source_same}
+use Rattle.smk_safe.proofs.Same.{source_same}
 use Rattle.smk_laws_history.proofs.CurrentComplete.{seen_is_complete}
 use Rattle.smk_laws_history.proofs.Valid.{records_valid}
 use Rattle.smk_laws_plan.specs.Current.{HasValidRecords, IsComplete}
@@ -28,13 +28,13 @@ use Rattle.smk_laws_plan.proofs.CurrentLists.{in_left, in_right}
 use Rattle.smk_laws_plan.proofs.CurrentPaths.{Above, among_in, in_among}
 use Rattle.smk_laws_plan.proofs.PlanOne.{derived_apart}
 use Rattle.smk_laws_protocol.proofs.Basics.{each_of, none_by}
-use Rattle.smk_laws_starting.proofs.Spots.{flipped}
+use Rattle.smk_laws_moments.proofs.Spots.{flipped}
 use Rattle.smk_drive.specs.Moments.{Rules, seen}
-use Rattle.smk_laws_folder.specs.Changing.{DiffersAt, IsAside, IsNew, IsOld, NeedsNoMore, OnlyMakes}
-use Rattle.smk_laws_folder.specs.Places.{LeavesElse}
-use Rattle.smk_laws_folder.proofs.Carrying.{by_test}
-use Rattle.smk_laws_folder.proofs.Off.{signs_are_off}
-use Rattle.smk_laws_folder.proofs.Places.{differs_by_places}
+use Rattle.smk_laws_turns.specs.Changing.{DiffersAt, IsAside, IsNew, IsOld, NeedsNoMore, OnlyMakes}
+use Rattle.smk_laws_turns.specs.Places.{LeavesElse}
+use Rattle.smk_laws_turns.proofs.Carrying.{by_test}
+use Rattle.smk_laws_turns.proofs.Off.{signs_are_off}
+use Rattle.smk_laws_turns.proofs.Places.{differs_by_places}
 use Rattle.smk_laws_changes.specs.Differing.{AreOfEntry, DiffersOf, LeavesOthers}
 use Rattle.smk_laws_changes.proofs.BegunCalls.{within_both, within_of}
 use Rattle.smk_laws_changes.proofs.JobPaths.{log_spot, note_off, output_off, output_spot, owned, owned_no_source, owned_paths_are, source_off, spots_differ}

@@ -20,7 +20,7 @@ use Rattle.smk_world.specs.World.{World, firm, firmly, going, is_above, is_withi
 use Rattle.smk_store.specs.Steps.{remove_each, write_each}
 use Rattle.smk_job.proofs.Single.{IsKnown, KeepsOff, Reaches, Stepped, firmly_none, is_start, removed, settled_firm, step_known, written}
 use Rattle.smk_job.proofs.Firmly.{reaches_keeps, reaches_split}
-use Rattle.smk_made.proofs.Kept.{AllHold, AreDifferent}
+use Rattle.smk_safe.proofs.Kept.{AllHold, AreDifferent}
 
 -- ## Nothing comes back
 

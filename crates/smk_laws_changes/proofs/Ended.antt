@@ -32,9 +32,9 @@ use Rattle.smk_laws_protocol.proofs.Basics.{each_in, each_on}
 use Rattle.smk_job.specs.Jobs.{Underway, bytes_with, underway}
 use Rattle.smk_run.specs.Runs.{AreWritable}
 use Rattle.smk_laws_job.proofs.Readable.{AreFor, outputs_paths}
-use Rattle.smk_made.proofs.Kept.{AllHold}
+use Rattle.smk_safe.proofs.Kept.{AllHold}
 use Rattle.smk_drive.specs.Moments.{Rules, seen}
-use Rattle.smk_laws_folder.specs.Changing.{NeedsNoMore}
+use Rattle.smk_laws_turns.specs.Changing.{NeedsNoMore}
 use Rattle.smk_laws_changes.specs.Differing.{IsKnownOrGone}
 use Rattle.smk_laws_changes.proofs.Recorded.{IsRecordOf, IsTimed, each_flat, kept_is, kept_stands, needs_none}
 use Rattle.smk_laws_changes.proofs.Leaving.{AllFor, HasLost}

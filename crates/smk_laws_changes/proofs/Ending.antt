@@ -27,7 +27,7 @@ use Rattle.smk_keep.specs.declared.fault.KeepFault.{KeepFault}
 use Rattle.smk_job.specs.Jobs.{Underway, bytes_with}
 use Rattle.smk_job.specs.declared.fault.CloseFault.TheVariants as close
 use Rattle.smk_job.proofs.Single.{IsKnown}
-use Rattle.smk_made.proofs.Kept.{AreDifferent}
+use Rattle.smk_safe.proofs.Kept.{AreDifferent}
 use Rattle.smk_run.specs.declared.ending.Ending.{Ending as End}
 use Rattle.smk_run.specs.declared.ending.Ending.TheVariants.{Good, Status, NoOutput, WrongKind, BadMember}
 use Rattle.smk_run.specs.Closings.{IsClosedBy, wait_event}

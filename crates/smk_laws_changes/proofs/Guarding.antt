@@ -33,8 +33,8 @@ use Rattle.smk_drive_course.specs.Stands.{Stand}
 use Rattle.smk_drive_course.specs.Steps.{Deed, GuardingFails, HasGuarded, IsTended, LooksFail, Tended, Unguarded}
 use Rattle.smk_laws_protocol.proofs.Basics.{each_in}
 use Rattle.smk_laws_moments.proofs.LooksLike.{like_looks}
-use Rattle.smk_laws_starting.proofs.Spots.{overlaps_above}
-use Rattle.smk_laws_folder.proofs.Places.{same_is_seen}
+use Rattle.smk_laws_moments.proofs.Spots.{overlaps_above}
+use Rattle.smk_laws_turns.proofs.Places.{same_is_seen}
 use Rattle.smk_laws_turns.specs.Hubs.{IsAt, Parts}
 use Rattle.smk_laws_changes.proofs.Apart.{owned_is_path}
 use Rattle.smk_laws_changes.specs.Guarded.{IsGuardedSince, bare_node}

@@ -17,12 +17,12 @@ use Rattle.smk_laws_plan.proofs.CurrentLists.{flat_in, in_either, in_flat, in_le
 use Rattle.smk_laws_plan.proofs.CurrentPaths.{in_among}
 use Rattle.smk_laws_plan.proofs.PlanOne.{derived_clear}
 use Rattle.smk_laws_protocol.proofs.Basics.{each_of, none_of}
-use Rattle.smk_laws_starting.proofs.Spots.{flipped, no_source}
+use Rattle.smk_laws_moments.proofs.Spots.{flipped, no_source}
 use Rattle.smk_cli_target.proofs.PlanPlaces.{log_is_path, out_is_path}
 use Rattle.smk_laws_moments.specs.Owning.{sites}
 use Rattle.smk_laws_moments.proofs.OwnSites.{Kept, Mark, Note, Site, Spot, site_of}
-use Rattle.smk_laws_folder.specs.Off.{IsOff}
-use Rattle.smk_laws_folder.proofs.Off.{paths_are_off}
+use Rattle.smk_laws_turns.specs.Off.{IsOff}
+use Rattle.smk_laws_turns.proofs.Off.{paths_are_off}
 
 abbrev pub owned : Job → List Path
 owned j = owned_paths j.recipe j.logs

@@ -27,7 +27,7 @@ use Rattle.smk_job.proofs.Single.{IsKnown, KeepsOff, Reaches, is_start, settled_
 use Rattle.smk_job.proofs.Firmly.{in_within, reaches_keeps, reaches_split}
 use Rattle.smk_laws_job.proofs.FinishRuns.{folder_among}
 use Rattle.smk_laws_job.proofs.Readable.{AreFor}
-use Rattle.smk_made.proofs.Kept.{AllHold, AreDifferent}
+use Rattle.smk_safe.proofs.Kept.{AllHold, AreDifferent}
 use Rattle.smk_run.proofs.Calls.{each_append}
 use Rattle.smk_laws_changes.proofs.ClosedCalls.{IsFree, IsOf, none_above, none_within}
 use Rattle.smk_laws_changes.proofs.Touched.{removes_of}

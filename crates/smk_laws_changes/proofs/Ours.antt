@@ -11,16 +11,16 @@ use Rattle.smk_store.specs.declared.store.Kept.{Kept}
 use Rattle.smk_store.specs.Images.{Content, Image, file_at, is_covered, is_known, is_source, source_at, stands}
 use Rattle.smk_store.specs.Soundness.{SameSources, told}
 use Rattle.smk_chain.specs.Derive.{Derived, Listings, derivation, has_record_or_mark, spots}
-use Rattle.smk_exit.proofs.Same.{source_same}
+use Rattle.smk_safe.proofs.Same.{source_same}
 use Rattle.smk_laws_plan.specs.Current.{IsComplete}
 use Rattle.smk_laws_plan.proofs.CurrentLists.{in_either, in_left, in_right}
 use Rattle.smk_laws_plan.proofs.CurrentPaths.{among_in, folders_under}
 use Rattle.smk_laws_plan.proofs.PlanStates.{any_same}
 use Rattle.smk_laws_protocol.proofs.Above.{above_in}
 use Rattle.smk_laws_protocol.proofs.Basics.{any_by}
-use Rattle.smk_laws_starting.proofs.Spots.{flipped}
+use Rattle.smk_laws_moments.proofs.Spots.{flipped}
 use Rattle.smk_laws_plan.specs.Signs.{HasOwnSigns}
-use Rattle.smk_laws_folder.proofs.Carrying.{by_test}
+use Rattle.smk_laws_turns.proofs.Carrying.{by_test}
 use Rattle.smk_laws_changes.specs.Differing.{ChangesAt, IsKnownOrGone, OursGoOn}
 use Rattle.smk_laws_changes.proofs.BegunCalls.{within_of}
 use Rattle.smk_laws_changes.proofs.JobPaths.{spot_no_source}

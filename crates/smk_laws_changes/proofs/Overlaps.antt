@@ -12,7 +12,7 @@ use Rattle.smk_job.specs.Jobs.{Underway}
 use Rattle.smk_store.specs.Unowned.{IsUnownedUnder}
 use Rattle.smk_laws_protocol.proofs.Basics.{none_of}
 use Rattle.smk_laws_plan.proofs.CurrentLists.{and_left, and_right, in_either, in_left, not_true}
-use Rattle.smk_laws_starting.proofs.Spots.{each_apart, flipped}
+use Rattle.smk_laws_moments.proofs.Spots.{each_apart, flipped}
 
 -- ## Overlaps
 

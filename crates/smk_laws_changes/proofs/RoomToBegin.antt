@@ -24,10 +24,10 @@ use Rattle.smk_laws_plan.proofs.CurrentLists.{all_in, in_either, in_left, in_map
 use Rattle.smk_laws_plan.proofs.CurrentProducts.{Planned}
 use Rattle.smk_laws_history.proofs.CurrentComplete.{seen_is_complete}
 use Rattle.smk_laws_history.proofs.Valid.{records_valid}
-use Rattle.smk_laws_starting.proofs.Inputs.{clear_of_inputs, inputs_clear, unclean_makes_none}
-use Rattle.smk_laws_starting.proofs.Next.{IsStarting, starting}
-use Rattle.smk_laws_starting.proofs.Others.{has_begun, is_kept, kept_unclean, named_apart, read_by_none}
-use Rattle.smk_laws_starting.proofs.Spots.{own_apart, owned, owned_between}
+use Rattle.smk_laws_moments.proofs.Inputs.{clear_of_inputs, inputs_clear, unclean_makes_none}
+use Rattle.smk_laws_moments.proofs.Next.{IsStarting, starting}
+use Rattle.smk_laws_moments.proofs.Others.{has_begun, is_kept, kept_unclean, named_apart, read_by_none}
+use Rattle.smk_laws_moments.proofs.Spots.{own_apart, owned, owned_between}
 use Rattle.smk_laws_turns.specs.Hubs.{AreSpaced, IsAt, Parts, child_of, plan_of}
 use Rattle.smk_laws_turns.specs.Turning.{OfParts}
 use Rattle.smk_laws_changes.specs.Room.{RoomBegun, RoomToBegin, UnownedToRead}

@@ -32,10 +32,10 @@ use Rattle.smk_laws_plan.proofs.CurrentPaths.{among_in, in_among}
 use Rattle.smk_laws_plan.proofs.CurrentProducts.{Planned, once_paths}
 use Rattle.smk_laws_history.proofs.CurrentComplete.{seen_is_complete}
 use Rattle.smk_laws_history.proofs.Valid.{records_valid}
-use Rattle.smk_laws_starting.proofs.Inputs.{input_clear, maker_is}
-use Rattle.smk_laws_starting.proofs.Next.{last_is_plan}
-use Rattle.smk_laws_starting.proofs.Others.{is_kept, kept_unclean}
-use Rattle.smk_laws_starting.proofs.Spots.{own_apart, overlaps_above, owned, owned_between}
+use Rattle.smk_laws_moments.proofs.Inputs.{input_clear, maker_is}
+use Rattle.smk_laws_moments.proofs.Next.{last_is_plan}
+use Rattle.smk_laws_moments.proofs.Others.{is_kept, kept_unclean}
+use Rattle.smk_laws_moments.proofs.Spots.{own_apart, overlaps_above, owned, owned_between}
 use Rattle.smk_laws_moments.proofs.OwnSites.{of_rule, outs_are}
 use Rattle.smk_laws_turns.specs.Hubs.{IsAt, Parts, plan_of}
 use Rattle.smk_laws_turns.specs.Turning.{OfParts}

@@ -29,13 +29,13 @@ use Rattle.smk_laws_plan.proofs.CurrentLists.{in_left}
 use Rattle.smk_laws_plan.proofs.CurrentPaths.{among_in, in_among}
 use Rattle.smk_laws_plan.proofs.PlanStates.{any_same}
 use Rattle.smk_laws_protocol.proofs.Basics.{each_of, none_by}
-use Rattle.smk_laws_starting.proofs.Spots.{flipped}
+use Rattle.smk_laws_moments.proofs.Spots.{flipped}
 use Rattle.smk_drive.specs.Moments.{Rules, seen}
-use Rattle.smk_laws_folder.specs.Changing.{DiffersAt, IsAside, IsOld, IsOldOrMade, NeedsNoMore, OnlyMakes}
+use Rattle.smk_laws_turns.specs.Changing.{DiffersAt, IsAside, IsOld, IsOldOrMade, NeedsNoMore, OnlyMakes}
 use Rattle.smk_laws_plan.specs.Signs.{HasOwnSigns}
-use Rattle.smk_laws_folder.specs.Places.{LeavesElse}
-use Rattle.smk_laws_folder.proofs.Carrying.{by_test}
-use Rattle.smk_laws_folder.proofs.Places.{differs_by_places}
+use Rattle.smk_laws_turns.specs.Places.{LeavesElse}
+use Rattle.smk_laws_turns.proofs.Carrying.{by_test}
+use Rattle.smk_laws_turns.proofs.Places.{differs_by_places}
 use Rattle.smk_laws_turns.specs.Hubs.{IsOurs, IsSigned}
 use Rattle.smk_laws_changes.specs.Begun.{IsSpentFor}
 use Rattle.smk_laws_changes.specs.Differing.{AreOfEntry, ChangesAt}

@@ -23,9 +23,9 @@ use Rattle.smk_laws_history.proofs.CurrentComplete.{seen_is_complete}
 use Rattle.smk_laws_protocol.proofs.Basics.{some_of}
 use Rattle.smk_drive.specs.Moments.{Rules, IsInForce, is_spent_now, progress_of, seen}
 use Rattle.smk_drive_course.specs.Stands.{IsClear, Stand, moment_of}
-use Rattle.smk_laws_starting.proofs.Next.{last_is_plan}
-use Rattle.smk_laws_starting.proofs.Others.{kept_unclean}
-use Rattle.smk_laws_following.proofs.Flagged.{temp_output}
+use Rattle.smk_laws_moments.proofs.Next.{last_is_plan}
+use Rattle.smk_laws_moments.proofs.Others.{kept_unclean}
+use Rattle.smk_laws_courses.proofs.Flagged.{temp_output}
 
 -- ## Words on states
 

@@ -22,7 +22,7 @@ use Rattle.smk_laws_protocol.proofs.Basics.{any_by, each_of}
 use Rattle.smk_laws_plan.specs.Current.{IsComplete}
 use Rattle.smk_laws_plan.proofs.CurrentLists.{flat_in, get_in, in_either, map_in}
 use Rattle.smk_laws_history.proofs.CurrentComplete.{seen_is_complete}
-use Rattle.smk_laws_starting.proofs.Spots.{owned}
+use Rattle.smk_laws_moments.proofs.Spots.{owned}
 use Rattle.smk_laws_turns.specs.Hubs.{IsAt, Parts, child_of}
 use Rattle.smk_laws_changes.proofs.Overlaps.{used_by, used_in}
 use Rattle.smk_laws_changes.proofs.Users.{input_is_path, owned_is_path}

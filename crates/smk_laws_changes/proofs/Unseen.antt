@@ -12,7 +12,7 @@ use Rattle.smk_plan.specs.Sights.{is_guarded, is_tellable, sight_of}
 use Rattle.smk_plan.specs.States.{test_some}
 use Rattle.smk_plan_live.specs.Carried.{nothing_at}
 use Rattle.smk_laws_protocol.proofs.Basics.{none_by}
-use Rattle.smk_laws_folder.proofs.Carrying.{by_test}
+use Rattle.smk_laws_turns.proofs.Carrying.{by_test}
 
 both_no : (a b c : Bool) → c ≡ false → (a && (b && c)) ≡ false
 both_no true true c h = h

@@ -14,7 +14,7 @@ use Rattle.smk_laws_plan.proofs.CurrentRecipes.{inputs_wanted}
 use Rattle.smk_laws_plan.proofs.PlanOne.{derived, derived_reached}
 use Rattle.smk_laws_plan.proofs.PlanOrder.{walked_reached}
 use Rattle.smk_laws_moments.proofs.OwnSites.{of_rule, outs_are}
-use Rattle.smk_laws_starting.proofs.Spots.{owned}
+use Rattle.smk_laws_moments.proofs.Spots.{owned}
 
 module _
     (flow : Flow) (image : Image) (L : Listings) (targets : List Path) (js : List Job) (complete : IsComplete image)

@@ -17,8 +17,8 @@ use Rattle.smk_plan.specs.States.{Plan}
 use Rattle.smk_drive.specs.Moments.{Rules, is_gone, is_spent_now, seen}
 use Rattle.smk_drive_course.specs.Stands.{IsClear, Stand, moment_of}
 use Rattle.smk_drive_course.specs.Steps.{Deed, IsToBegin, calls_of}
-use Rattle.smk_laws_folder.specs.Agreeing.{IsBegunOutput, IsSpentOutput}
-use Rattle.smk_laws_folder.specs.Changing.{DiffersAt}
+use Rattle.smk_laws_turns.specs.Agreeing.{IsBegunOutput, IsSpentOutput}
+use Rattle.smk_laws_turns.specs.Changing.{DiffersAt}
 use Rattle.smk_laws_turns.specs.Hubs.{IsAt, IsOurs, Parts}
 use Rattle.smk_laws_changes.specs.Differing.{AreOfEntry}
 

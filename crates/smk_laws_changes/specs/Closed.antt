@@ -17,7 +17,7 @@ use Rattle.smk_run.specs.Closings.{IsClosedBy, wait_event}
 use Rattle.smk_drive.specs.Moments.{Rules, is_gone, seen}
 use Rattle.smk_drive_course.specs.Stands.{Stand}
 use Rattle.smk_drive_course.specs.Steps.{Deed, IsTended, IsWaitFor, guards_of}
-use Rattle.smk_laws_folder.specs.Changing.{DiffersAt}
+use Rattle.smk_laws_turns.specs.Changing.{DiffersAt}
 use Rattle.smk_laws_turns.specs.Hubs.{IsAt, IsOurs, Parts}
 use Rattle.smk_laws_changes.specs.Guarded.{IsGuardedSince}
 

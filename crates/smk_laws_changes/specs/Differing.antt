@@ -15,10 +15,10 @@ use Rattle.smk_chain.specs.Derive.{Derived, Listings, derivation, spots}
 use Rattle.smk_laws_plan.specs.Current.{IsComplete}
 use Rattle.smk_plan_facts.specs.Facts.{told_sources}
 use Rattle.smk_drive.specs.Moments.{Rules, seen}
-use Rattle.smk_laws_folder.specs.Changing.{DiffersAt, NeedsNoMore}
+use Rattle.smk_laws_turns.specs.Changing.{DiffersAt, NeedsNoMore}
 use Rattle.smk_laws_plan.specs.Signs.{HasOwnSigns}
-use Rattle.smk_laws_folder.specs.Off.{IsOff}
-use Rattle.smk_laws_folder.specs.Places.{IsSameUnder}
+use Rattle.smk_laws_turns.specs.Off.{IsOff}
+use Rattle.smk_laws_turns.specs.Places.{IsSameUnder}
 
 -- ## The run's own
 

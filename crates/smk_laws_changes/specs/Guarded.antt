@@ -16,7 +16,7 @@ use Rattle.smk_report.specs.declared.fault.Fault.TheVariants as fault
 use Rattle.smk_drive.specs.Moments.{Begun, Rules, progress_of, seen}
 use Rattle.smk_drive.specs.Refusals.{ChainRefuses}
 use Rattle.smk_drive_course.specs.Stands.{GoesBy, IsReplanned, Stand, lists}
-use Rattle.smk_laws_staying.specs.Staying.{IsListed}
+use Rattle.smk_laws_moments.specs.Staying.{IsListed}
 
 -- a node, be it read-only or not
 abbrev pub bare_node : Option Node → Option Node

@@ -16,7 +16,7 @@ use Rattle.smk_drive_hub.specs.Keeping.{heeded}
 use Rattle.smk_laws_turns.specs.Hubs.{IsCountOf, Parts}
 use Rattle.smk_laws_turns.specs.Turning.{HasLed, TellsOf, faulted}
 use Rattle.smk_laws_turns.proofs.Turning.{closing_leads}
-use Rattle.smk_laws_rest.specs.Resting.{HasGoneBy, IsReplyOf}
+use Rattle.smk_laws_turns.specs.Resting.{HasGoneBy, IsReplyOf}
 use Rattle.smk_laws_closes.specs.Learning.{HasLearnt, IsOutcomeIn, IsSamePlan, IsToldOf, LookFails, LooksShort, closed_base}
 use Rattle.smk_laws_closes.proofs.Basis.{Closing, closed_world, without}
 use Rattle.smk_laws_closes.proofs.Counting.{counted_more, heeded_waits}

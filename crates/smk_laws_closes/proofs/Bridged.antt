@@ -21,7 +21,7 @@ use Rattle.smk_laws_protocol.proofs.Basics.{each_on, in_here}
 use Rattle.smk_laws_history.proofs.CurrentComplete.{seen_is_complete}
 use Rattle.smk_laws_history.proofs.CurrentReads.{sources_alike}
 use Rattle.smk_laws_plan.proofs.PlanOne.{derived}
-use Rattle.smk_laws_staying.specs.Staying.{IsListed}
+use Rattle.smk_laws_moments.specs.Staying.{IsListed}
 use Rattle.smk_laws_closes.specs.Endings.{told_end}
 use Rattle.smk_laws_closes.proofs.Around.{with_end}
 use Rattle.smk_laws_closes.proofs.Basis.{Closing, begun_job, closed_world, its, its_begun, jobs, of_plan, wait, without}

@@ -16,7 +16,7 @@ use Rattle.smk_drive_course.specs.Reports.{deed_faults, failures, is_done, is_st
 use Rattle.smk_drive.specs.Lawful.{is_good_end}
 use Rattle.smk_laws_turns.specs.Hubs.{IsCountOf, Parts, ask_in, asks_in}
 use Rattle.smk_drive_hub.specs.Keeping.{heeded}
-use Rattle.smk_laws_rest.specs.Resting.{fault_of}
+use Rattle.smk_laws_turns.specs.Resting.{fault_of}
 use Rattle.smk_laws_closes.specs.Endings.{told_end}
 use Rattle.smk_laws_closes.specs.Closes.{counted_end, first_failure}
 

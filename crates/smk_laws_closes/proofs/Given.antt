@@ -1,7 +1,7 @@
 -- The laws of other crates that are used here.
 use Rattle.smk_laws_turns.proofs.Turning.{growing_leads}
-use Rattle.smk_laws_rest.proofs.Answered.{rest_goes_by}
-use Rattle.smk_laws_rest.proofs.Rests.{any_is_replanned}
+use Rattle.smk_laws_turns.proofs.Answered.{rest_goes_by}
+use Rattle.smk_laws_turns.proofs.Rests.{any_is_replanned}
 use Rattle.smk_laws_growing.proofs.Given.{laws as growing_laws}
 use Rattle.smk_laws_growing.proofs.Grows.{growth_goes_on}
 use Rattle.smk_laws_changes.proofs.Before.{plan_before_guarding}

@@ -22,10 +22,10 @@ use Rattle.smk_drive_course.specs.Stands.{IsReplanned, Stand, broken_by_device}
 use Rattle.smk_drive_course.specs.Steps.{GoesByAnswer, HasGuarded, IsTended, LooksFail, guards_of}
 use Rattle.smk_drive_first.specs.Opening.{AreRules}
 use Rattle.smk_laws_moments.proofs.ChildrenOf.{run_more}
-use Rattle.smk_laws_staying.specs.Staying.{IsListed}
+use Rattle.smk_laws_moments.specs.Staying.{IsListed}
 use Rattle.smk_laws_turns.specs.Hubs.{AreChildrenOf, IsCountOf, IsKept, Parts, asks_in, plan_of}
 use Rattle.smk_laws_turns.specs.Turning.{HasLed, TellsGrown}
-use Rattle.smk_laws_rest.specs.Resting.{HasReplanned, IsTold}
+use Rattle.smk_laws_turns.specs.Resting.{HasReplanned, IsTold}
 use Rattle.smk_laws_growing.specs.Growing.{HasGrownOn}
 use Rattle.smk_laws_growing.specs.Onward.{HasGrownBy, HasGrownTo, IsOnward}
 use Rattle.smk_laws_closes.specs.Learning.{IsOutcomeIn, IsSamePlan, closed_base}

@@ -31,7 +31,7 @@ use Rattle.smk_drive_course.specs.Steps.{guards_of}
 use Rattle.smk_drive_outcome.specs.declared.outcome.Outcome.{Outcome}
 use Rattle.smk_drive_step.specs.Crews.{is_device}
 use Rattle.smk_drive_step.specs.Telling.{HasGuarded, keep_fault}
-use Rattle.smk_laws_rest.specs.Resting.{IsReplyOf, IsTold}
+use Rattle.smk_laws_turns.specs.Resting.{IsReplyOf, IsTold}
 use Rattle.smk_laws_turns.specs.Hubs.{Parts}
 use Rattle.smk_laws_closes.specs.Closes.{GuardFails, HasTended, IsUnguarded, Learns, WasHalted}
 use Rattle.smk_laws_closes.specs.Learning.{HasLearnt, HasLearntOf, IsOutcomeIn, IsSamePlan, IsToldOf, LookFails, LooksShort, closed_base}

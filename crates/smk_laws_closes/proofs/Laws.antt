@@ -1,6 +1,6 @@
 -- Laws of other crates that are taken for granted here.
 use Rattle.smk_laws_turns.specs.Turning.{GrowingLeads, OfParts}
-use Rattle.smk_laws_rest.specs.Resting.{AnyIsReplanned, RestGoesBy}
+use Rattle.smk_laws_turns.specs.Resting.{AnyIsReplanned, RestGoesBy}
 use Rattle.smk_laws_changes.specs.Closed.{CloseDiffers, LeftOurs, TendDiffers}
 use Rattle.smk_laws_changes.specs.Guarded.{PlanBeforeGuarding}
 use Rattle.smk_laws_growing.specs.Onward.{GrowthGoesOn}

@@ -31,10 +31,10 @@ use Rattle.smk_drive_course.specs.Stands.{ended_if, is_job_of, lists}
 use Rattle.smk_drive_course.specs.Steps.{HasGuarded, guards_of}
 use Rattle.smk_laws_protocol.proofs.Basics.{in_filter, in_rest, in_split}
 use Rattle.smk_laws_plan.proofs.CurrentLists.{map_in}
-use Rattle.smk_laws_staying.specs.Staying.{IsListed}
+use Rattle.smk_laws_moments.specs.Staying.{IsListed}
 use Rattle.smk_laws_turns.specs.Hubs.{AreChildrenOf, AreRunning, IsCrew, IsOurs, Parts}
 use Rattle.smk_laws_turns.proofs.Crew.{crew_shrinks}
-use Rattle.smk_laws_rest.specs.Resting.{IsTold}
+use Rattle.smk_laws_turns.specs.Resting.{IsTold}
 use Rattle.smk_laws_growing.specs.Onward.{IsOnward}
 use Rattle.smk_laws_closes.specs.Learning.{IsOutcomeIn, IsSamePlan, closed_base}
 use Rattle.smk_laws_closes.proofs.Around.{other_outs, paths_themselves}

@@ -10,7 +10,7 @@ use Rattle.smk_trigger.specs.declared.reason.State.{State}
 use Rattle.smk_plan.specs.States.{job_path}
 use Rattle.smk_report.specs.Lines.{Ending}
 use Rattle.smk_drive.specs.Moments.{Begun, Rules, draws, progress_of, runs}
-use Rattle.smk_laws_folder.specs.Progressing.{IsEnded, state_in}
+use Rattle.smk_laws_turns.specs.Progressing.{IsEnded, state_in}
 use Rattle.smk_laws_closes.proofs.Around.{IsSplit, with_end}
 
 -- ## Names

@@ -21,7 +21,7 @@ use Rattle.smk_laws_history.proofs.CurrentComplete.{seen_is_complete}
 use Rattle.smk_laws_protocol.proofs.Basics.{in_among, in_rest}
 use Rattle.smk_laws_moments.proofs.ChildrenOf.{run_more}
 use Rattle.smk_laws_moments.proofs.QuietCalls.{IsQuiet, quiet_run, tended_quiet}
-use Rattle.smk_laws_folder.proofs.Deriving.{derivation_goes_on}
+use Rattle.smk_laws_turns.proofs.Deriving.{derivation_goes_on}
 use Rattle.smk_laws_turns.specs.Hubs.{IsHome}
 use Rattle.smk_laws_changes.specs.Homes.{IsLookedAt}
 use Rattle.smk_laws_changes.proofs.Apart.{one_job}

@@ -26,12 +26,12 @@ use Rattle.smk_drive_pick.specs.Picking.{AreAlike}
 use Rattle.smk_drive_course.specs.Stands.{GoesBy, IsReplanned, lists}
 use Rattle.smk_drive_course.specs.Steps.{HasGuarded, guards_of}
 use Rattle.smk_drive_first.specs.Opening.{AreRules}
-use Rattle.smk_laws_folder.specs.Changing.{DiffersAt}
-use Rattle.smk_laws_folder.specs.Progressing.{IsAlike, IsEnded}
-use Rattle.smk_laws_folder.proofs.Agreeing.{close_agrees}
-use Rattle.smk_laws_folder.proofs.Progressing.{closes_alike}
+use Rattle.smk_laws_turns.specs.Changing.{DiffersAt}
+use Rattle.smk_laws_turns.specs.Progressing.{IsAlike, IsEnded}
+use Rattle.smk_laws_turns.proofs.Agreeing.{close_agrees}
+use Rattle.smk_laws_turns.proofs.Progressing.{closes_alike}
 use Rattle.smk_laws_turns.specs.Hubs.{IsKept}
-use Rattle.smk_laws_rest.specs.Resting.{HasGoneBy, IsFirstRefused, IsReplyOf, IsResting}
+use Rattle.smk_laws_turns.specs.Resting.{HasGoneBy, IsFirstRefused, IsReplyOf, IsResting}
 use Rattle.smk_laws_closes.specs.Endings.{told_end}
 use Rattle.smk_laws_closes.specs.Learning.{IsOutcomeIn, closed_base}
 use Rattle.smk_laws_closes.proofs.Bridged.{bridged, listed}

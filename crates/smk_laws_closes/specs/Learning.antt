@@ -21,7 +21,7 @@ use Rattle.smk_plan_live.specs.Lives.{IsLive}
 use Rattle.smk_drive_step.specs.Crews.{is_device}
 use Rattle.smk_drive_outcome.specs.declared.outcome.Outcome.{Outcome}
 use Rattle.smk_drive_outcome.specs.Outcomes.{AreOutcomes, AreUnowned}
-use Rattle.smk_laws_rest.specs.Resting.{IsReplyOf}
+use Rattle.smk_laws_turns.specs.Resting.{IsReplyOf}
 
 -- what is known and seen once the job of the number was closed, of whose outputs this is told
 abbrev pub closed_base : ℕ → Outcome → Base → Base

@@ -1,3 +1,9 @@
+pub mod Known
+pub mod Newly
+pub mod Right
+pub mod Fewer
+pub mod Made
+pub mod Meant
 pub mod Meanings
 pub mod Walked
 pub mod Wanted

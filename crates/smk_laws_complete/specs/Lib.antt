@@ -1,2 +1,4 @@
+pub mod Valued
+pub mod Listed
 pub mod Derived
 pub mod Planned

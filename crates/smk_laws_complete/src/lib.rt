@@ -1,8 +1,29 @@
-//! The law of completeness: what is refused, and what fails, where each target has a clean value.
+//! Laws of completeness: what is refused, what fails, and what plans and their listings are, where each target has a clean value.
 #![tactic(auto)]
 
+ghost use Rattle.smk_laws_complete.specs.Valued.{MeantAreRight, MeantJobsAreGood, MoreAreRight, NewAreMeant};
+ghost use Rattle.smk_laws_complete.specs.Listed.{AwaitedAreRecorded, GatheredAreRecorded, ListingsStayMeant};
 ghost use Rattle.smk_laws_complete.specs.Derived.{CleanTargetsAreDerived, DerivedJobsAreGood, GoodJobsEndWell, NoListingIsRight};
 ghost use Rattle.smk_laws_complete.specs.Planned.{ChainsEnd, CleanPlanIsCurrent, CleanTargetsArePlanned};
+
+/// With listings that tell the files of clean values, or of what the job of an output makes of such, a plan's jobs read what a clean run has them
+/// read. So where each target has a clean value each of them whose directories are listed succeeds on clean inputs. What becomes known by such a plan
+/// in a sound folder are such listings again; and with them the next jobs are right too, unless their outputs and logs clash.
+pub fn meant_plans_are_good()
+    ensures right { MeantAreRight }
+    ensures good { MeantJobsAreGood }
+    ensures new { NewAreMeant }
+    ensures more { MoreAreRight }
+{}
+
+/// Along a chain of plans of a sound folder listings tell the files of clean values, or of what the job of an output makes of such, if those do with
+/// which it began. So by the last plan a directory that is awaited and at hand, or that a job gathers from which isn't Open, is listed as its record
+/// has it.
+pub fn listings_stay_meant()
+    ensures meant { ListingsStayMeant }
+    ensures awaited { AwaitedAreRecorded }
+    ensures gathered { GatheredAreRecorded }
+{}
 
 /// Where each target has a clean value and the listings are right, derivation refuses nothing but too many paths and outputs or logs
 /// that clash. That there are no listings is right.

@@ -23,7 +23,7 @@ use Rattle.smk_report.specs.declared.fault.Fault.TheVariants as fault
 use Rattle.smk_keep.specs.declared.fault.KeepFault.{KeepFault}
 use Rattle.smk_keep.specs.declared.fault.KeepFault.TheVariants.{Device, OutOfMemory}
 use Rattle.smk_drive.specs.Moments.{IsMoment, Moment, Rules, is_gone, seen}
-use Rattle.smk_drive_target.proofs.HasMoment.{has_moment}
+use Rattle.smk_drive_course.proofs.HasMoment.{has_moment}
 use Rattle.smk_drive_course.specs.Stands.{AtRest, Between, GoesBy, GoesOn, IsPlanned, IsRefused, IsReplanned, LacksMemory, Stand, WasHalted, first_stand}
 use Rattle.smk_drive_course.specs.Steps.{AreRemoved, Deed, GoesByAnswer, NoMore, OneMore}
 use Rattle.smk_drive_course.specs.Breaks.{Begins, BeginsNot, BreaksOff, Closes, Done, FailsToWait, Halts, Leaves, ReadsNot, Spends, SpendsNot, Step, Steps, Then, Waits}
@@ -34,9 +34,9 @@ use Rattle.smk_laws_moments.proofs.Fates.{IsKept, answer_kept}
 use Rattle.smk_laws_moments.proofs.QuietCalls.{quiet_run}
 use Rattle.smk_laws_moments.proofs.SpendingOf.{spending_is_moment}
 use Rattle.smk_laws_moments.proofs.StandsOf.{first_follows, first_is_moment, looks_keep_stands}
-use Rattle.smk_laws_staying.specs.Staying.{KeepsSources}
-use Rattle.smk_laws_staying.proofs.Planned.{midway_keeps_sources}
-use Rattle.smk_laws_staying.proofs.StandsOn.{start_is_derived}
+use Rattle.smk_laws_moments.specs.Staying.{KeepsSources}
+use Rattle.smk_laws_moments.proofs.Planned.{midway_keeps_sources}
+use Rattle.smk_laws_moments.proofs.StandsOn.{start_is_derived}
 use Rattle.smk_laws_courses.specs.Standing.{AreMarked, IsGoing, KeepsMarks, MidwayKeepsMarks, ProtocolKeeps, StandsAreMoments, StepIsMoment}
 use Rattle.smk_laws_courses.proofs.BeginningOf.{beginning_is_moment, tree_run}
 use Rattle.smk_laws_courses.proofs.ClosingOf.{closing_is_moment, leaving_is_moment}

@@ -35,7 +35,7 @@ use Rattle.smk_laws_moments.specs.Standing.{IsStandOf}
 use Rattle.smk_laws_moments.proofs.ChildrenOf.{run_more}
 use Rattle.smk_laws_moments.proofs.OwnCalls.{own_calls_begin_none}
 use Rattle.smk_laws_moments.proofs.StandsOf.{world_is}
-use Rattle.smk_laws_staying.specs.Staying.{IsPlanOfSources}
+use Rattle.smk_laws_moments.specs.Staying.{IsPlanOfSources}
 use Rattle.smk_laws_courses.proofs.OneBegins.{alone, is_named, none_passes, unspent}
 use Rattle.smk_laws_courses.proofs.Onward.{At, all_kept, anew_event, no_end, own_event, own_keeps, quiet_event}
 use Rattle.smk_laws_courses.proofs.Requests.{IsBeginning, beginning_own, no_wait, out_placed, own_call}

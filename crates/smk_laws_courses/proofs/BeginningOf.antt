@@ -28,8 +28,8 @@ use Rattle.smk_laws_protocol.proofs.Basics.{each_in}
 use Rattle.smk_job.specs.Jobs.{Underway, clear_requests}
 use Rattle.smk_drive.specs.Moments.{Begun, IsInForce, Rules, begun_of, is_child_of, lists_of, progress_of, runs, seen}
 use Rattle.smk_drive.specs.Lawful.{first_of, fit_together, running_jobs}
-use Rattle.smk_drive_target.specs.Lawful.{is_free_to_start, may_start}
-use Rattle.smk_drive_target.proofs.HasMoment.{has_moment}
+use Rattle.smk_drive_course.specs.Lawful.{is_free_to_start, may_start}
+use Rattle.smk_drive_course.proofs.HasMoment.{has_moment}
 use Rattle.smk_drive_course.specs.Stands.{IsReplanned, Stand, moment_of, with_job}
 use Rattle.smk_drive_course.specs.Steps.{Deed, HasBegun}
 use Rattle.smk_laws_moments.specs.Courses.{child_of}
@@ -37,7 +37,7 @@ use Rattle.smk_laws_moments.proofs.ChainsOn.{clear_stays, planned_again}
 use Rattle.smk_laws_moments.proofs.ChildrenOf.{run_more}
 use Rattle.smk_laws_moments.proofs.LooksLike.{IsLike, like_looks}
 use Rattle.smk_laws_moments.proofs.StandsOf.{first_follows, looks_keep_stands}
-use Rattle.smk_laws_staying.specs.Staying.{AreDerivedStill, IsDerivedStill}
+use Rattle.smk_laws_moments.specs.Staying.{AreDerivedStill, IsDerivedStill}
 use Rattle.smk_laws_courses.specs.Standing.{BeginningIsMoment, IsGoing}
 use Rattle.smk_laws_courses.proofs.Beginning.{OnItsWay, all_calls, first_ahead, started}
 use Rattle.smk_laws_courses.proofs.Onward.{At, goes_at, is_it}

@@ -19,7 +19,7 @@ use Rattle.smk_run.specs.Closings.{wait_event}
 use Rattle.smk_run.specs.declared.ending.Ending.{Ending as End}
 use Rattle.smk_run.specs.declared.ending.Ending.TheVariants.{Good, Status, NoOutput, WrongKind, BadMember}
 use Rattle.smk_drive.specs.Moments.{Begun, IsInForce, Rules, is_rest, seen}
-use Rattle.smk_drive_target.proofs.HasMoment.{has_moment}
+use Rattle.smk_drive_course.proofs.HasMoment.{has_moment}
 use Rattle.smk_drive_course.specs.Stands as stands
 use Rattle.smk_drive_course.specs.Stands.{IsReplanned, Stand, broken_by_device, lists}
 use Rattle.smk_drive_course.specs.Steps.{Deed, GoesByAnswer, GuardingFails, HasClosed, IsTended, LooksFail, Tended, Unguarded, guards_of}
@@ -27,9 +27,9 @@ use Rattle.smk_laws_moments.proofs.Fates.{IsKept, replanned_kept}
 use Rattle.smk_laws_moments.proofs.ChainsOn.{planned_again}
 use Rattle.smk_laws_moments.proofs.ChildrenOf.{run_more}
 use Rattle.smk_laws_moments.proofs.StandsOf.{first_follows, looks_keep_stands}
-use Rattle.smk_laws_staying.specs.Staying.{AreDerivedStill, IsDerivedStill, IsPlanOfSources, KeepsSources}
-use Rattle.smk_laws_staying.proofs.Planned.{planned_jobs}
-use Rattle.smk_laws_staying.proofs.StandsOn.{Holds, ended as ended_stays, holds_anew, replanning_stays_derived}
+use Rattle.smk_laws_moments.specs.Staying.{AreDerivedStill, IsDerivedStill, IsPlanOfSources, KeepsSources}
+use Rattle.smk_laws_moments.proofs.Planned.{planned_jobs}
+use Rattle.smk_laws_moments.proofs.StandsOn.{Holds, ended as ended_stays, holds_anew, replanning_stays_derived}
 use Rattle.smk_laws_courses.specs.Standing.{ClosingIsMoment, IsGoing, LeavingIsMoment}
 use Rattle.smk_laws_courses.proofs.DerivedJobs.{guards_are_outs}
 use Rattle.smk_laws_courses.proofs.Onward.{At, goes_at, halted_at, is_it}

@@ -24,8 +24,8 @@ use Rattle.smk_drive_course.specs.Steps.{Deed}
 use Rattle.smk_drive_course.specs.Breaks.{Begins, BeginsNot, BreaksOff, Closes, FailsToWait, Halts, Leaves, ReadsNot, Spends, SpendsNot, Step, Waits}
 use Rattle.smk_laws_moments.proofs.ChildrenOf.{step_children}
 use Rattle.smk_laws_moments.proofs.Fates.{IsKept, answer_kept, broken_kept, goes_kept, halted_kept, kept_then, removed_kept, replanned_kept}
-use Rattle.smk_laws_staying.specs.Staying.{AreDerivedStill}
-use Rattle.smk_laws_staying.proofs.StandsOn.{step_stays_derived}
+use Rattle.smk_laws_moments.specs.Staying.{AreDerivedStill}
+use Rattle.smk_laws_moments.proofs.StandsOn.{step_stays_derived}
 use Rattle.smk_laws_courses.specs.Standing.{GoesOn, path_of}
 use Rattle.smk_laws_courses.proofs.BeginningOf.{begun_child, tree_run, unbegun}
 

@@ -15,8 +15,8 @@ use Rattle.smk_report.specs.declared.fault.Fault.{Fault}
 use Rattle.smk_report.specs.declared.fault.Fault.TheVariants as fault
 use Rattle.smk_drive.specs.Moments.{AtRest, Begun, Between, IsInForce, IsMoment, Moment, Rules, begins, begun_after, begun_of, has_begun, is_rest, lists_of, staged_now, with_end}
 use Rattle.smk_drive.specs.Lawful.{is_wait}
-use Rattle.smk_drive_target.proofs.HasMoment.{has_moment}
-use Rattle.smk_drive_target.proofs.OneMoment.{one_moment}
+use Rattle.smk_drive_course.proofs.HasMoment.{has_moment}
+use Rattle.smk_drive_course.proofs.OneMoment.{one_moment}
 use Rattle.smk_drive_course.specs.Stands as stands
 use Rattle.smk_drive_course.specs.Stands.{GoesBy, GoesOn, IsRefused, IsReplanned, LacksMemory, Stand, WasHalted, halted_by, lists}
 use Rattle.smk_laws_moments.specs.Owning.{IsOwnCall}
@@ -24,7 +24,7 @@ use Rattle.smk_laws_moments.specs.Standing.{HasBegunAs, IsStandOf}
 use Rattle.smk_laws_moments.proofs.OwnCalls.{own_calls_keep_begun}
 use Rattle.smk_laws_moments.proofs.ReplanningOf.{replanning_is_moment}
 use Rattle.smk_laws_moments.proofs.StandsOf.{world_is}
-use Rattle.smk_laws_staying.specs.Staying.{IsPlanOfSources}
+use Rattle.smk_laws_moments.specs.Staying.{IsPlanOfSources}
 
 -- only a wait tells how a child ended
 pub no_end : (rules : Rules) (w v : World) (call : Call) → is_wait call ≡ false → (b : Begun) → with_end rules w v call b ≡ b

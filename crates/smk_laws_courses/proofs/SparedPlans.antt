@@ -35,7 +35,7 @@ use Rattle.smk_cli_target.proofs.PlanPlaces.{place_of}
 use Rattle.smk_cli_target.proofs.PlanStays.{IsAlike, IsLike, is_like, listings_like, plan_like}
 use Rattle.smk_cli_target.proofs.SparedWorlds.{HasNoChild, IsOver, IsSpared, MayChange, files_same, kept_same, marked_same, noted_same, spared_on, whole_is}
 use Rattle.smk_laws_moments.specs.Owning.{sites}
-use Rattle.smk_laws_staying.proofs.StandsOn.{last_done}
+use Rattle.smk_laws_moments.proofs.StandsOn.{last_done}
 use Rattle.smk_laws_courses.proofs.Requests.{IsBeginning, out_placed}
 
 nothing_reads : (s : NodeState) → reads_nothing s ≡ true → reading s ≡ None

@@ -28,7 +28,7 @@ use Rattle.smk_drive.specs.Moments.{Begun, IsInForce, Rules, is_child_of, is_gon
 use Rattle.smk_drive_course.specs.Stands.{Stand, lists}
 use Rattle.smk_drive_course.specs.Steps.{HasGuarded}
 use Rattle.smk_laws_moments.proofs.ChildrenOf.{run_more}
-use Rattle.smk_laws_staying.specs.Staying.{IsPlanOfSources}
+use Rattle.smk_laws_moments.specs.Staying.{IsPlanOfSources}
 use Rattle.smk_laws_courses.proofs.Flags.{IsAsBare, bare, force_there}
 use Rattle.smk_laws_courses.proofs.Onward.{At, own_keeps, quiet_event}
 use Rattle.smk_laws_courses.proofs.Requests.{IsOwn, no_wait, out_placed, outs_apart, own_call, placed_site, settles_apart}

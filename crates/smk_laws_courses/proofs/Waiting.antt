@@ -33,8 +33,8 @@ use Rattle.smk_laws_moments.specs.Owning.{IsOwnCall}
 use Rattle.smk_laws_moments.proofs.ChildrenOf.{run_more}
 use Rattle.smk_laws_moments.proofs.QuietCalls.{quiet_children}
 use Rattle.smk_laws_moments.proofs.StandsOf.{world_is}
-use Rattle.smk_laws_staying.specs.Staying.{IsDerivedStill, IsPlanOfSources}
-use Rattle.smk_laws_staying.proofs.Planned.{planned_jobs}
+use Rattle.smk_laws_moments.specs.Staying.{IsDerivedStill, IsPlanOfSources}
+use Rattle.smk_laws_moments.proofs.Planned.{planned_jobs}
 use Rattle.smk_laws_courses.specs.Standing.{IsGoing}
 use Rattle.smk_laws_courses.proofs.DerivedJobs.{is_named_so, outs_are_paths}
 use Rattle.smk_laws_courses.proofs.Numbers.{AllOther, all_other, any_numbered, none_of_job, numbered}

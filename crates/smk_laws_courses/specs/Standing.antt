@@ -24,7 +24,7 @@ use Rattle.smk_drive_course.specs.Breaks.{HasLeft, Step, Steps}
 use Rattle.smk_drive_course.specs.Driven.{IsOpening}
 use Rattle.smk_laws_moments.specs.Courses.{HasChildren}
 use Rattle.smk_laws_moments.specs.Standing.{IsStandOf}
-use Rattle.smk_laws_staying.specs.Staying.{AreDerivedStill, KeepsSources}
+use Rattle.smk_laws_moments.specs.Staying.{AreDerivedStill, KeepsSources}
 
 -- ## Children that run
 

@@ -24,8 +24,8 @@ use Rattle.smk_laws_history.proofs.CurrentEased.{none_restored, sound_none}
 use Rattle.smk_laws_history.proofs.CurrentLaw.{current_means_clean_in_worlds, last_is}
 use Rattle.smk_laws_history.proofs.CurrentReads.{same_values}
 use Rattle.smk_laws_history.proofs.Valid.{records_valid}
-use Rattle.smk_laws_listed.specs.Listed.{AreMeant, IsMeantChain, all_known}
-use Rattle.smk_laws_listed.proofs.Meant.{awaited_are_recorded, begun_right, gathered_are_recorded}
+use Rattle.smk_laws_complete.specs.Listed.{AreMeant, IsMeantChain, all_known}
+use Rattle.smk_laws_complete.proofs.Meant.{awaited_are_recorded, begun_right, gathered_are_recorded}
 use Rattle.smk_laws_protocol.proofs.Basics.{each_of}
 use Rattle.smk_safe.proofs.Images.{sources_now}
 use Rattle.smk_drive.specs.Moments.{IsInForce, Rules, progress_of, seen}
@@ -35,7 +35,7 @@ use Rattle.smk_drive_course.specs.Stands.{moment_of}
 use Rattle.smk_drive_course.specs.Steps.{Deed}
 use Rattle.smk_drive_course.specs.Driven.{HasEndedWell, IsRun}
 use Rattle.smk_drive_course.specs.Reports.{failures}
-use Rattle.smk_laws_following.proofs.Laws.{run_is_safe}
+use Rattle.smk_laws_courses.proofs.Laws.{run_is_safe}
 use Rattle.smk_laws_driven.specs.Ended.{HasToldWell, setting_in}
 use Rattle.smk_laws_driven.proofs.Fields.{fields_known, unrefused}
 use Rattle.smk_laws_driven.proofs.Lasting.{WasClear, clear_force, run_clear}

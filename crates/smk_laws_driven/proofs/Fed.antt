@@ -34,10 +34,10 @@ use Rattle.smk_report.specs.declared.fault.Fault.TheVariants as fault
 use Rattle.smk_drive.specs.Moments.{IsInForce, Rules, progress_of, seen}
 use Rattle.smk_drive.specs.Refusals.{above_limit, ahead, guarded, incomplete, of_command}
 use Rattle.smk_drive_course.specs.Stands.{IsClear, Stand}
-use Rattle.smk_laws_starting.proofs.Inputs.{maker_is, state_in}
-use Rattle.smk_laws_starting.proofs.Next.{IsStarting}
-use Rattle.smk_laws_listed.specs.Listed.{AreMeant, all_known}
-use Rattle.smk_laws_listed.proofs.Meant.{begun_right}
+use Rattle.smk_laws_moments.proofs.Inputs.{maker_is, state_in}
+use Rattle.smk_laws_moments.proofs.Next.{IsStarting}
+use Rattle.smk_laws_complete.specs.Listed.{AreMeant, all_known}
+use Rattle.smk_laws_complete.proofs.Meant.{begun_right}
 use Rattle.smk_laws_driven.proofs.Fields.{unrefused}
 use Rattle.smk_laws_driven.proofs.Listed.{same_setting}
 

@@ -16,13 +16,13 @@ use Rattle.smk_laws_history.proofs.CurrentLaw.{last_is}
 use Rattle.smk_laws_history.proofs.Valid.{records_valid}
 use Rattle.smk_laws_complete.specs.Derived.{AllHaveValues, AreRight, GathersAlone, HasListings, IsGoodJob}
 use Rattle.smk_laws_complete.proofs.Goods.{derived_jobs_are_good}
-use Rattle.smk_laws_listed.specs.Listed.{AreMeant, all_known}
-use Rattle.smk_laws_values.proofs.Right.{meant_are_right}
+use Rattle.smk_laws_complete.specs.Listed.{AreMeant, all_known}
+use Rattle.smk_laws_complete.proofs.Right.{meant_are_right}
 use Rattle.smk_laws_protocol.proofs.Basics.{each_in}
 use Rattle.smk_job.specs.Jobs.{Underway}
 use Rattle.smk_drive.specs.Moments.{IsInForce, Rules, lists_of, progress_of, seen}
 use Rattle.smk_drive_course.specs.Stands.{Stand, lists}
-use Rattle.smk_laws_staying.specs.Staying.{IsDerivedStill}
+use Rattle.smk_laws_moments.specs.Staying.{IsDerivedStill}
 use Rattle.smk_laws_driven.proofs.Leaving.{clear_plan}
 use Rattle.smk_laws_driven.proofs.Lasting.{WasClear, clear_force}
 use Rattle.smk_laws_driven.proofs.Listed.{same_setting}

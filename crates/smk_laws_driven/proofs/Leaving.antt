@@ -21,9 +21,9 @@ use Rattle.smk_plan.specs.States.{IsPlan, Last, LastPlan, Plan, Progress, Then, 
 use Rattle.smk_laws_history.proofs.CurrentComplete.{seen_is_complete}
 use Rattle.smk_laws_complete.proofs.Chains.{chains_end}
 use Rattle.smk_laws_protocol.proofs.Basics.{each_of}
-use Rattle.smk_exit.specs.Exit.{begun_so}
-use Rattle.smk_laws_leaving.specs.Leaving.{IsDone, StaysDone}
-use Rattle.smk_laws_leaving.proofs.Leaving.{done_stays_done}
+use Rattle.smk_safe.specs.Exit.{begun_so}
+use Rattle.smk_laws_edit.specs.Leaving.{IsDone, StaysDone}
+use Rattle.smk_laws_edit.proofs.Leaving.{done_stays_done}
 use Rattle.smk_drive.specs.Moments.{IsInForce, Rules, progress_of, seen}
 use Rattle.smk_drive_course.specs.declared.ending.End.{End}
 use Rattle.smk_drive_course.specs.Stands.{IsClear, Stand}

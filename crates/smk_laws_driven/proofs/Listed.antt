@@ -20,13 +20,13 @@ use Rattle.smk_laws_history.proofs.CurrentComplete.{seen_is_complete}
 use Rattle.smk_laws_history.proofs.CurrentLaw.{last_is}
 use Rattle.smk_laws_history.proofs.CurrentReads.{sources_alike}
 use Rattle.smk_laws_history.proofs.Valid.{records_valid}
-use Rattle.smk_laws_listed.specs.Listed.{AreMeant, all_known}
-use Rattle.smk_laws_listed.proofs.Fewer.{sound_fewer}
-use Rattle.smk_laws_listed.proofs.Meant.{listings_stay_meant}
+use Rattle.smk_laws_complete.specs.Listed.{AreMeant, all_known}
+use Rattle.smk_laws_complete.proofs.Fewer.{sound_fewer}
+use Rattle.smk_laws_complete.proofs.Meant.{listings_stay_meant}
 use Rattle.smk_laws_protocol.specs.Protocol.{eased}
 use Rattle.smk_laws_protocol.specs.Midway.{Midway}
 use Rattle.smk_laws_protocol.proofs.MidwayHolds.{holds_midway}
-use Rattle.smk_made.proofs.Done.{follows_split}
+use Rattle.smk_safe.proofs.Done.{follows_split}
 use Rattle.smk_keep.specs.declared.fault.KeepFault.{KeepFault}
 use Rattle.smk_keep.specs.declared.fault.KeepFault.TheVariants.{Device, OutOfMemory}
 use Rattle.smk_report.specs.declared.fault.Fault.{Fault}
@@ -40,8 +40,8 @@ use Rattle.smk_laws_moments.specs.Courses.{HasChildren, IsHaltedIfBroken, child_
 use Rattle.smk_laws_moments.proofs.ChildrenOf.{at_start, run_more}
 use Rattle.smk_laws_moments.proofs.Fates.{begun_stand, ended_stand, replanned_kept}
 use Rattle.smk_laws_moments.proofs.QuietCalls.{IsQuiet, quiet_children}
-use Rattle.smk_laws_staying.proofs.Planned.{derived_are_planned, midway_keeps_sources}
-use Rattle.smk_laws_following.specs.Following.{IsReached}
+use Rattle.smk_laws_moments.proofs.Planned.{derived_are_planned, midway_keeps_sources}
+use Rattle.smk_laws_courses.specs.Following.{IsReached}
 use Rattle.smk_laws_driven.proofs.Lasting.{WasClear, answer_broken, clear_force, start_clear, step_broken, step_clear, unhalted_step}
 use Rattle.smk_laws_driven.proofs.Once.{begun_once, ended_once, kept_once, spent_once}
 use Rattle.smk_laws_driven.proofs.Reaching.{is_top, next_children, next_reached, parts, start_kept, start_reached, start_unhalted, top, unhalted_before}

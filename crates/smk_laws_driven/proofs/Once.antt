@@ -14,7 +14,7 @@ use Rattle.smk_drive.specs.Moments.{Begun, Rules, begun_of, ending, seen}
 use Rattle.smk_drive_course.specs.Stands.{Stand, ended_if, is_job_of, moment_of}
 use Rattle.smk_drive_course.specs.Steps.{Deed, HasBegun, HasClosed, HasSpent}
 use Rattle.smk_laws_moments.proofs.Fates.{IsKept, answer_kept, begun_stand, ended_stand, goes_kept, kept_then, removed_kept, replanned_kept}
-use Rattle.smk_laws_starting.proofs.Next.{IsStarting, starting}
+use Rattle.smk_laws_moments.proofs.Next.{IsStarting, starting}
 use Rattle.smk_laws_driven.proofs.Restored.{IsOnce}
 
 pub kept_job : (image : Image) (g : Underway) (status : ℕ) (b : Begun) → (ended_if image g status b).job ≡ b.job

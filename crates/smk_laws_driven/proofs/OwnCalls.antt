@@ -24,10 +24,10 @@ use Rattle.smk_keep.specs.declared.fault.KeepFault.{KeepFault}
 use Rattle.smk_drive_course.specs.Steps.{GuardingFails, HasGuarded, IsTended, LooksFail, Tended, Unguarded}
 use Rattle.smk_plan.specs.States.{job_path}
 use Rattle.smk_laws_moments.specs.Owning.{IsOwnCall}
-use Rattle.smk_laws_folder.specs.Leaving.{AreOwnCalls}
-use Rattle.smk_laws_folder.specs.Places.{IsSameUnder}
-use Rattle.smk_laws_folder.proofs.Leaving.{own_calls_leave}
-use Rattle.smk_laws_folder.proofs.Off.{paths_are_off}
+use Rattle.smk_laws_turns.specs.Leaving.{AreOwnCalls}
+use Rattle.smk_laws_turns.specs.Places.{IsSameUnder}
+use Rattle.smk_laws_turns.proofs.Leaving.{own_calls_leave}
+use Rattle.smk_laws_turns.proofs.Off.{paths_are_off}
 use Rattle.smk_laws_courses.proofs.Signs.{Spares}
 use Rattle.smk_laws_courses.proofs.Requests.{IsOwn, begins_each, beginning_own, closing_of, own_call, protects_each, done_last}
 use Rattle.smk_base.specs.Place.{mark_place}

@@ -8,7 +8,7 @@ use Rattle.smk_record.specs.Spelling.{ReadsRecords}
 use Rattle.smk_store.specs.Soundness.{Outside, SoundWorld}
 use Rattle.smk_store.specs.Trust.{SumsDiffer, Versions}
 use Rattle.smk_laws_protocol.specs.Midway.{IsTop}
-use Rattle.smk_made.proofs.Done.{follows_split}
+use Rattle.smk_safe.proofs.Done.{follows_split}
 use Rattle.smk_report.specs.declared.fault.Fault.{Fault}
 use Rattle.smk_drive.specs.Moments.{Rules, greatest, seen}
 use Rattle.smk_drive_course.specs.declared.ending.End.{End}
@@ -19,11 +19,11 @@ use Rattle.smk_drive_course.specs.Driven.{IsRun}
 use Rattle.smk_laws_moments.specs.Courses.{HasChildren}
 use Rattle.smk_laws_moments.proofs.ChildrenOf.{children_are_of_stand}
 use Rattle.smk_laws_moments.proofs.Fates.{IsKept, answer_kept, first_fault_stays}
-use Rattle.smk_laws_staying.proofs.StandsOn.{start_is_derived}
-use Rattle.smk_laws_following.specs.Following.{GuardsAreOutputs, IsGiven, IsReached}
-use Rattle.smk_laws_following.proofs.Greatest.{greatest_is_top}
-use Rattle.smk_laws_following.proofs.Laws.{steps_follow}
-use Rattle.smk_laws_following.proofs.Opening.{opening_leads}
+use Rattle.smk_laws_moments.proofs.StandsOn.{start_is_derived}
+use Rattle.smk_laws_courses.specs.Following.{GuardsAreOutputs, IsGiven, IsReached}
+use Rattle.smk_laws_courses.proofs.Greatest.{greatest_is_top}
+use Rattle.smk_laws_courses.proofs.Laws.{steps_follow}
+use Rattle.smk_laws_courses.proofs.Opening.{opening_leads}
 
 none_some : (f : Fault) → ◌≡◌ {A = Option Fault} None (Some f) → ⊥
 none_some f h = cc

@@ -28,9 +28,9 @@ use Rattle.smk_laws_plan.proofs.CurrentProducts.{Planned}
 use Rattle.smk_laws_plan.proofs.PlanOne.{pair_first}
 use Rattle.smk_drive.specs.Moments.{Begun, Rules, is_child_of, progress_of, runs, seen}
 use Rattle.smk_drive_course.specs.Stands.{Stand}
-use Rattle.smk_drive_open.specs.Opened.{AreStillPlanned, IsOpen, IsPlannedStill, IsStateOf, opened}
+use Rattle.smk_laws_moments.specs.Opened.{AreStillPlanned, IsOpen, IsPlannedStill, IsStateOf, opened}
 use Rattle.smk_laws_moments.specs.Courses.{HasChildren, child_of}
-use Rattle.smk_laws_starting.proofs.Inputs.{maker_is, state_in}
+use Rattle.smk_laws_moments.proofs.Inputs.{maker_is, state_in}
 
 -- of jobs of one name just one has begun
 abbrev pub IsOnce : Stand → Type 0

@@ -21,7 +21,7 @@ use Rattle.smk_laws_protocol.proofs.SoundViews.{sound_from}
 use Rattle.smk_laws_protocol.proofs.SoundWorlds.{now_is}
 use Rattle.smk_laws_protocol.proofs.View.{Sound as ViewSound}
 use Rattle.smk_laws_protocol.proofs.Views.{reads}
-pub use Rattle.smk_laws_listed.proofs.Fewer.{sound_fewer}
+pub use Rattle.smk_laws_complete.proofs.Fewer.{sound_fewer}
 
 module _ (o : Outside) (entry : World) (H : Versions) (s : RunState) (w : World) (m : Midway o entry H s w) where
   -- a Restore has looked at the record that it found, and has at hand what it writes in its place

@@ -25,20 +25,20 @@ use Rattle.smk_laws_protocol.specs.Midway.{IsTop, Midway}
 use Rattle.smk_laws_protocol.proofs.Basics.{each_in, each_on, none_of}
 use Rattle.smk_laws_protocol.proofs.MidwayHolds.{holds_midway}
 use Rattle.smk_laws_job.proofs.Abandoning.{removed_call, settled_call}
-use Rattle.smk_made.proofs.Done.{follows_split}
+use Rattle.smk_safe.proofs.Done.{follows_split}
 use Rattle.smk_drive.specs.Moments.{Begun, Rules, is_spent_now, seen}
 use Rattle.smk_drive_course.specs.Stands.{IsClear, IsReplanned, Stand, moment_of}
 use Rattle.smk_drive_course.specs.Steps.{AreRemoved, Deed, HasSpent, IsAsListed, NoMore, OneMore}
-use Rattle.smk_drive_open.specs.Opened.{IsOpen, opened}
+use Rattle.smk_laws_moments.specs.Opened.{IsOpen, opened}
 use Rattle.smk_laws_moments.proofs.ChildrenOf.{run_more}
-use Rattle.smk_laws_folder.specs.Places.{IsSameUnder}
-use Rattle.smk_laws_staying.proofs.Planned.{derived_are_planned, midway_keeps_sources}
-use Rattle.smk_laws_staying.proofs.StandsOn.{replanning_stays_derived}
-use Rattle.smk_laws_following.specs.Following.{IsReached}
-use Rattle.smk_laws_following.proofs.Begun.{unbroken}
-use Rattle.smk_laws_following.proofs.Coming.{come_on, one_step}
-use Rattle.smk_laws_following.proofs.Spent.{spent_is_free}
-use Rattle.smk_laws_following.proofs.StandStates.{IsLater, goes_later, later_then, replanned_later, state_later}
+use Rattle.smk_laws_turns.specs.Places.{IsSameUnder}
+use Rattle.smk_laws_moments.proofs.Planned.{derived_are_planned, midway_keeps_sources}
+use Rattle.smk_laws_moments.proofs.StandsOn.{replanning_stays_derived}
+use Rattle.smk_laws_courses.specs.Following.{IsReached}
+use Rattle.smk_laws_courses.proofs.Begun.{unbroken}
+use Rattle.smk_laws_courses.proofs.Coming.{come_on, one_step}
+use Rattle.smk_laws_courses.proofs.Spent.{spent_is_free}
+use Rattle.smk_laws_courses.proofs.StandStates.{IsLater, goes_later, later_then, replanned_later, state_later}
 
 -- ## What calls leave
 

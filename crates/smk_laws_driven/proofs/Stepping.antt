@@ -49,17 +49,17 @@ use Rattle.smk_drive.specs.Moments.{Begun, Rules, begun_of, ending, fault_of, or
 use Rattle.smk_drive_course.specs.Reports.{failures}
 use Rattle.smk_drive_course.specs.Stands.{Stand, lists, moment_of}
 use Rattle.smk_drive_course.specs.Steps.{Closed, Deed, HasBegun, HasClosed, HasSpent, guards_of}
-use Rattle.smk_drive_open.specs.Opened.{AreStillPlanned, IsOpen, beginning, found_by, opened}
-use Rattle.smk_laws_starting.specs.Starting.{MayOpen, top_with}
+use Rattle.smk_laws_moments.specs.Opened.{AreStillPlanned, IsOpen, beginning, found_by, opened}
+use Rattle.smk_laws_moments.specs.Starting.{MayOpen, top_with}
 use Rattle.smk_laws_moments.proofs.Fates.{IsKept, begun_stand, ended_stand}
-use Rattle.smk_laws_folder.specs.Leaving.{AreOwnCalls}
-use Rattle.smk_laws_staying.specs.Staying.{IsDerivedStill}
-use Rattle.smk_laws_staying.proofs.Planned.{derived_are_planned, midway_keeps_sources}
-use Rattle.smk_laws_starting.proofs.Next.{IsStarting, starting}
-use Rattle.smk_laws_starting.proofs.Starting.{startable_may_begin}
-use Rattle.smk_laws_following.specs.Following.{IsReached}
-use Rattle.smk_laws_following.proofs.Pairs.{aside, parted}
-use Rattle.smk_laws_following.proofs.StandStates.{IsLater}
+use Rattle.smk_laws_turns.specs.Leaving.{AreOwnCalls}
+use Rattle.smk_laws_moments.specs.Staying.{IsDerivedStill}
+use Rattle.smk_laws_moments.proofs.Planned.{derived_are_planned, midway_keeps_sources}
+use Rattle.smk_laws_moments.proofs.Next.{IsStarting, starting}
+use Rattle.smk_laws_moments.proofs.Starting.{startable_may_begin}
+use Rattle.smk_laws_courses.specs.Following.{IsReached}
+use Rattle.smk_laws_courses.proofs.Pairs.{aside, parted}
+use Rattle.smk_laws_courses.proofs.StandStates.{IsLater}
 use Rattle.smk_laws_driven.proofs.Fed.{next_fed}
 use Rattle.smk_laws_driven.proofs.Good as good
 use Rattle.smk_laws_driven.proofs.Good.{stand_right}

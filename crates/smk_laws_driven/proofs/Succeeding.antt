@@ -16,7 +16,7 @@ use Rattle.smk_store.specs.Trust.{SumsDiffer, Versions}
 use Rattle.smk_chain.specs.Mean.{setting_of}
 use Rattle.smk_laws_complete.specs.Derived.{AllHaveValues, GathersAlone}
 use Rattle.smk_laws_protocol.specs.Midway.{IsTop}
-use Rattle.smk_made.proofs.Done.{follows_split}
+use Rattle.smk_safe.proofs.Done.{follows_split}
 use Rattle.smk_run.specs.Statuses.{AreGiven}
 use Rattle.smk_drive.specs.Moments.{Rules, seen}
 use Rattle.smk_drive_course.specs.declared.ending.End.{End}
@@ -28,7 +28,7 @@ use Rattle.smk_drive_course.specs.Driven.{HasEndedWell, IsRun}
 use Rattle.smk_laws_moments.specs.Courses.{IsHaltedIfBroken}
 use Rattle.smk_laws_moments.proofs.ChildrenOf.{run_more}
 use Rattle.smk_laws_moments.proofs.Fates.{IsKept}
-use Rattle.smk_laws_following.specs.Following.{IsReached}
+use Rattle.smk_laws_courses.specs.Following.{IsReached}
 use Rattle.smk_laws_driven.specs.Succeeding.{DrivenSucceeds}
 use Rattle.smk_laws_driven.proofs.Lasting.{WasClear, answer_broken, start_clear, step_broken, step_clear, unhalted_step}
 use Rattle.smk_laws_driven.proofs.Listed.{IsListedWell, next_well, start_well}

@@ -18,7 +18,7 @@ use Rattle.smk_pick.specs.declared.settings.Force.{Force}
 use Rattle.smk_pick.specs.declared.settings.Force.TheVariants.{No}
 use Rattle.smk_pick.specs.declared.settings.Settings.{Settings}
 use Rattle.smk_plan.specs.States.{IsPlan, Plan, by_force, by_reasons, is_open_now, is_read_now, is_restored, is_to_restore, job_path, kept_state, made_by, makes, state_of, while_running}
-use Rattle.smk_exit.specs.Exit.{begun_so}
+use Rattle.smk_safe.specs.Exit.{begun_so}
 
 not_both : (b : Bool) → (b && false) ≡ false
 not_both true = refl

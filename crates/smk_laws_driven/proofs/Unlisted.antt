@@ -12,7 +12,7 @@ use Rattle.smk_laws_history.proofs.CurrentComplete.{seen_is_complete}
 use Rattle.smk_keep.specs.declared.fault.KeepFault.{KeepFault}
 use Rattle.smk_keep.specs.declared.fault.KeepFault.TheVariants.{Device, OutOfMemory}
 use Rattle.smk_run.specs.Closings.{wait_event}
-use Rattle.smk_exit.proofs.Table.{awaited_none}
+use Rattle.smk_safe.proofs.Table.{awaited_none}
 use Rattle.smk_drive.specs.Moments.{Rules, progress_of, seen}
 use Rattle.smk_drive_course.specs.declared.ending.End.{End}
 use Rattle.smk_report.specs.declared.fault.Fault.{Fault}

@@ -8,7 +8,7 @@ use Rattle.smk_record.specs.Spelling.{ReadsRecords}
 use Rattle.smk_store.specs.Soundness.{Outside, SoundWorld}
 use Rattle.smk_store.specs.Trust.{SumsDiffer, Versions}
 use Rattle.smk_laws_protocol.specs.Midway.{HasSafeImages}
-use Rattle.smk_laws_lock.specs.Parts.{IsRun}
+use Rattle.smk_laws_refusing.specs.Parts.{IsRun}
 use Rattle.smk_report.specs.declared.fault.Fault.{Fault}
 use Rattle.smk_drive.specs.Moments.{Rules}
 use Rattle.smk_drive_course.specs.declared.ending.End.{End}

@@ -14,7 +14,7 @@ use Rattle.smk_pick.specs.declared.settings.Force.TheVariants.{No}
 use Rattle.smk_plan.specs.States.{IsPlan, LastPlan, Plan, Progress, is_current}
 use Rattle.smk_laws_plan.specs.Current.{IsClean, IsComplete}
 use Rattle.smk_safe.specs.Planned.{IsPlain}
-use Rattle.smk_exit.specs.Exit.{begun_so}
+use Rattle.smk_safe.specs.Exit.{begun_so}
 use Rattle.smk_report.specs.declared.fault.Fault.{Fault}
 use Rattle.smk_drive.specs.Moments.{Rules}
 use Rattle.smk_drive_course.specs.declared.ending.End.{End}

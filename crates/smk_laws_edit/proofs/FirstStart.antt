@@ -14,7 +14,7 @@ use Rattle.smk_laws_plan.proofs.CurrentLists.{in_left}
 use Rattle.smk_laws_plan.proofs.CurrentPaths.{in_among}
 use Rattle.smk_drive.specs.Moments.{AtEntry, AtRest, Begun, Between, IsMoment, Moment, Rules, seen}
 use Rattle.smk_laws_history.specs.Histories.{edited}
-use Rattle.smk_drive_target.specs.Keeping.{has_start}
+use Rattle.smk_drive_course.specs.Keeping.{has_start}
 use Rattle.smk_cli_target.specs.Thrift.{LeadsThere, MayStartAfter, Restores}
 use Rattle.smk_cli_target.proofs.NextRun.{last_parts}
 use Rattle.smk_laws_edit.specs.Edited.{FirstStartIsDownstream, IsDownstream, IsReadBack, IsToRunFor}

@@ -1,3 +1,9 @@
+pub mod Fewer
+pub mod Clear
+pub mod Trimmed
+pub mod Chained
+pub mod Resting
+pub mod Leaving
 pub mod SameLists
 pub mod Grown
 pub mod AnyPlan

@@ -10,8 +10,8 @@ use Rattle.smk_world.specs.declared.event.Event.{Event}
 use Rattle.smk_flow.specs.declared.job.Job.{Job}
 use Rattle.smk_laws_plan.proofs.CurrentLists.{or_first, or_left, or_right, or_second}
 use Rattle.smk_drive.specs.Moments.{Begun, Rules, is_child_of, is_gone, is_rest, runs, with_end}
-use Rattle.smk_drive_target.specs.Keeping.{has_start, is_start}
-use Rattle.smk_drive_target.specs.Moments.{starts}
+use Rattle.smk_drive_course.specs.Keeping.{has_start, is_start}
+use Rattle.smk_drive_course.specs.Moments.{starts}
 
 pub some_begun : (b : Begun) (bs : List Begun) → b ∷ bs ≡ [] → ⊥
 some_begun b bs h = cc

@@ -27,8 +27,8 @@ use Rattle.smk_laws_plan.proofs.CurrentPaths.{among_in, in_among}
 use Rattle.smk_drive.specs.Lawful.{lock_places, makes_folders, protects}
 use Rattle.smk_drive.specs.Moments.{AtEntry, AtRest, Begun, Between, IsInForce, IsMoment, Moment, Rules, begins, begun_after, begun_of, changes_at, ending, is_child_of, is_closed, is_closed_well, is_spent_removal, places, progress_of, seen, staged_now, with_end}
 use Rattle.smk_laws_history.proofs.CurrentComplete.{seen_is_complete}
-use Rattle.smk_drive_target.specs.Lawful.{IsLawfulEvent, open_places, planned_places}
-use Rattle.smk_drive_target.specs.Moments.{AtEachEvent}
+use Rattle.smk_drive_course.specs.Lawful.{IsLawfulEvent, open_places, planned_places}
+use Rattle.smk_drive_course.specs.Moments.{AtEachEvent}
 use Rattle.smk_cli_target.proofs.NextRun.{above_in, last_parts, lock_in, moment_world}
 use Rattle.smk_cli_target.proofs.PlanPlaces.{guard_is_out, log_is_path, out_is_path, temp_is_out}
 use Rattle.smk_laws_edit.specs.Unbegun.{UnbegunStay, is_output_of}

@@ -22,10 +22,10 @@ use Rattle.smk_drive.specs.Lawful.{fit_together, lock_places, makes_folders, pro
 use Rattle.smk_drive.specs.Moments.{AtEntry, AtRest, Begun, Between, IsMoment, Moment, Rules, begins, begun_after, begun_of, changes_at, is_closed, is_rest, is_spent_now, is_spent_removal, places, progress_of, runs, seen, with_end}
 use Rattle.smk_laws_protocol.proofs.Basics.{each_in}
 use Rattle.smk_laws_history.proofs.CurrentComplete.{seen_is_complete}
-use Rattle.smk_drive_target.specs.Keeping.{Spends, has_start, is_start}
-use Rattle.smk_drive_target.specs.Lawful.{BeginsWell, ChangesWell, IsLawfulEvent, MayBegin, StartsWell, WaitsWell, is_free_to_start, may_start, open_places, planned_places}
-use Rattle.smk_drive_target.specs.Moments.{AtEachEvent, starts}
-use Rattle.smk_drive_target.proofs.OneMoment.{one_moment}
+use Rattle.smk_drive_course.specs.Keeping.{Spends, has_start, is_start}
+use Rattle.smk_drive_course.specs.Lawful.{BeginsWell, ChangesWell, IsLawfulEvent, MayBegin, StartsWell, WaitsWell, is_free_to_start, may_start, open_places, planned_places}
+use Rattle.smk_drive_course.specs.Moments.{AtEachEvent, starts}
+use Rattle.smk_drive_course.proofs.OneMoment.{one_moment}
 use Rattle.smk_cli_target.proofs.NextRun.{above_in, lock_in}
 use Rattle.smk_cli_target.proofs.PlanPlaces.{at_lock, place_of}
 use Rattle.smk_cli_target.proofs.PlanStays.{IsAlike, last_stays, plan_stays, and_never}

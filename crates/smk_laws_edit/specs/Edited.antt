@@ -13,8 +13,8 @@ use Rattle.smk_trigger.specs.declared.reason.State.{State}
 use Rattle.smk_trigger.specs.JobStates.{is_dirty, is_restore, is_to_run}
 use Rattle.smk_plan.specs.States.{Plan, makes, staged}
 use Rattle.smk_drive.specs.Moments.{Begun, Rules, begun_after}
-use Rattle.smk_drive_target.specs.Keeping.{has_start}
-use Rattle.smk_drive_target.specs.Moments.{AtEachEvent, starts}
+use Rattle.smk_drive_course.specs.Keeping.{has_start}
+use Rattle.smk_drive_course.specs.Moments.{AtEachEvent, starts}
 use Rattle.smk_words_reading.specs.declared.asked.RunWords.{RunWords}
 use Rattle.smk_cli_target.specs.declared.ending.Outcome.{Outcome}
 use Rattle.smk_cli_target.specs.Ends.{IsGoodEntry}

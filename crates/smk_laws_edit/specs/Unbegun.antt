@@ -6,8 +6,8 @@ use Rattle.smk_world.specs.Runs.{Follows}
 use Rattle.smk_world.specs.World.{World, IsFormed, out_paths}
 use Rattle.smk_world.specs.Trees.{Path, Act, among}
 use Rattle.smk_drive.specs.Moments.{Begun, EachMoment, Rules, seen}
-use Rattle.smk_drive_target.specs.Lawful.{IsLawfulEvent}
-use Rattle.smk_drive_target.specs.Moments.{AtEachEvent}
+use Rattle.smk_drive_course.specs.Lawful.{IsLawfulEvent}
+use Rattle.smk_drive_course.specs.Moments.{AtEachEvent}
 
 -- one of these jobs makes the path as an output
 abbrev pub is_output_of : List Begun → Path → Bool

@@ -1,9 +1,17 @@
-//! What is to be done after an edit, or after sources were touched.
+//! Laws of the next call: what is to be done after an edit, after sources were touched, and once all jobs of a plan are Clean.
 #![tactic(auto)]
 
+ghost use Rattle.smk_laws_edit.specs.Leaving.{DoneStaysDone};
 ghost use Rattle.smk_cli_target.specs.Thrift.{TouchedStartsNone};
 ghost use Rattle.smk_laws_edit.specs.Edited.{AfterEditOnlyDownstream, FirstStartIsDownstream};
 ghost use Rattle.smk_laws_edit.specs.Unbegun.{UnbegunStay};
+
+/// Once all jobs of a plan are Clean nothing is left to do, however its listings became known. The chain of plans of the next call, which begins from no
+/// listing, derives its jobs step by step again: each directory that becomes known was known, so that nothing is refused, and its last plan has each job
+/// Clean too. A target that was current is so by that plan.
+pub fn done_stays_done()
+    ensures { DoneStaysDone }
+{}
 
 /// After a run that meets the contract and ended with status 0, and an edit of one source that isn't read for the workflow, the plan of the
 /// next run or listing has nothing new. Each job that it calls Dirty leads by a chain of wants to the edited source, and each that it is to

@@ -26,8 +26,8 @@ use Rattle.smk_laws_plan.specs.Current.{IsComplete}
 use Rattle.smk_laws_plan.proofs.CurrentLists.{flat_in, get_in, in_either, map_in}
 use Rattle.smk_laws_plan.proofs.CurrentPaths.{in_among}
 use Rattle.smk_laws_history.proofs.CurrentComplete.{seen_is_complete}
-use Rattle.smk_laws_starting.proofs.Spots.{owned}
-use Rattle.smk_laws_rest.specs.Growing.{IsBeside}
+use Rattle.smk_laws_moments.proofs.Spots.{owned}
+use Rattle.smk_laws_turns.specs.Growing.{IsBeside}
 use Rattle.smk_laws_turns.specs.Hubs.{IsSigned, Parts, child_of}
 use Rattle.smk_laws_growing.specs.Onward.{IsOnward}
 use Rattle.smk_laws_growing.proofs.Makers.{owned_is_path}

@@ -26,18 +26,18 @@ use Rattle.smk_report.specs.declared.fault.Fault.{Fault}
 use Rattle.smk_report.specs.declared.fault.Fault.TheVariants as fault
 use Rattle.smk_drive.specs.Moments.{Rules, progress_of, seen}
 use Rattle.smk_drive.specs.Refusals.{ChainRefuses, DerivationRefuses, PlanRefuses}
-use Rattle.smk_drive_target.specs.Refusals.{PlansAreRefused}
+use Rattle.smk_drive_course.specs.Refusals.{PlansAreRefused}
 use Rattle.smk_drive_step.specs.Crews.{or_later}
 use Rattle.smk_drive_course.specs.Stands.{AtRest, GoesBy, GoesOn, IsClear, IsRefused, LacksMemory, Stand, first_fault, halted_by, replanned}
 use Rattle.smk_drive_course.specs.Stands as stands
-use Rattle.smk_laws_folder.specs.InForce.{kept_plan}
-use Rattle.smk_laws_folder.specs.Progressing.{IsAlike}
-use Rattle.smk_laws_folder.proofs.PlansAlike.{plan_same}
-use Rattle.smk_laws_rest.specs.Growing.{IsMoreOf, IsMoreRefusal, Refuses, TooMany}
-use Rattle.smk_laws_rest.specs.Resting.{refused_command}
-use Rattle.smk_laws_rest.proofs.Alike.{refused_same}
-use Rattle.smk_laws_rest.proofs.Commands.{rules_by}
-use Rattle.smk_laws_rest.proofs.Rests.{in_force}
+use Rattle.smk_laws_turns.specs.InForce.{kept_plan}
+use Rattle.smk_laws_turns.specs.Progressing.{IsAlike}
+use Rattle.smk_laws_turns.proofs.PlansAlike.{plan_same}
+use Rattle.smk_laws_turns.specs.Growing.{IsMoreOf, IsMoreRefusal, Refuses, TooMany}
+use Rattle.smk_laws_turns.specs.Resting.{refused_command}
+use Rattle.smk_laws_turns.proofs.Alike.{refused_same}
+use Rattle.smk_laws_turns.proofs.Commands.{rules_by}
+use Rattle.smk_laws_turns.proofs.Rests.{in_force}
 use Rattle.smk_laws_turns.specs.Hubs.{Parts}
 use Rattle.smk_laws_turns.specs.Turning.{faulted}
 use Rattle.smk_laws_growing.specs.Growing.{IsRefusedBy, OfJobs, OfPlan}

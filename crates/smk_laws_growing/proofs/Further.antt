@@ -34,12 +34,12 @@ use Rattle.smk_laws_plan.proofs.CurrentLists.{get_in, in_left}
 use Rattle.smk_laws_plan.proofs.CurrentPaths.{among_in, in_among}
 use Rattle.smk_laws_history.proofs.CurrentReads.{sources_alike}
 use Rattle.smk_laws_protocol.proofs.Basics.{each_on}
-use Rattle.smk_laws_folder.specs.InForce.{kept_plan}
-use Rattle.smk_laws_folder.proofs.Deriving.{derivation_goes_on}
-use Rattle.smk_laws_staying.specs.Staying.{IsListed}
-use Rattle.smk_laws_rest.specs.Growing.{IsMoreOf}
-use Rattle.smk_laws_rest.proofs.Commands.{rules_by}
-use Rattle.smk_laws_round.specs.Grown.{AreFree}
+use Rattle.smk_laws_turns.specs.InForce.{kept_plan}
+use Rattle.smk_laws_turns.proofs.Deriving.{derivation_goes_on}
+use Rattle.smk_laws_moments.specs.Staying.{IsListed}
+use Rattle.smk_laws_turns.specs.Growing.{IsMoreOf}
+use Rattle.smk_laws_turns.proofs.Commands.{rules_by}
+use Rattle.smk_laws_growing.specs.Grown.{AreFree}
 use Rattle.smk_laws_turns.specs.Hubs.{Parts}
 use Rattle.smk_laws_growing.specs.Onward.{IsOnward}
 use Rattle.smk_laws_growing.proofs.Beside.{IsOwnedBy, owner_of}

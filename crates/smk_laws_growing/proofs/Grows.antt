@@ -20,7 +20,7 @@ use Rattle.smk_drive_course.specs.Stands.{Stand}
 use Rattle.smk_drive_course.specs.Stands as stands
 use Rattle.smk_drive_first.specs.Opening.{AreRules}
 use Rattle.smk_laws_moments.proofs.ChildrenOf.{run_more}
-use Rattle.smk_laws_rest.proofs.Commands.{rules_by}
+use Rattle.smk_laws_turns.proofs.Commands.{rules_by}
 use Rattle.smk_laws_turns.specs.Hubs.{Parts, asks_in}
 use Rattle.smk_laws_turns.specs.Turning.{faulted}
 use Rattle.smk_laws_growing.specs.Growing.{Grows, HasGrownOn, IsBarred, IsGrownBy, IsRefused, IsWhole, LacksMemory, LookFails}

@@ -25,15 +25,15 @@ use Rattle.smk_laws_plan.specs.Current.{IsComplete}
 use Rattle.smk_laws_plan.proofs.CurrentLists.{get_in}
 use Rattle.smk_laws_plan.proofs.CurrentPaths.{in_among}
 use Rattle.smk_laws_history.proofs.CurrentComplete.{seen_is_complete}
-use Rattle.smk_laws_folder.specs.InForce.{HasCommands, IsKeptFor, kept_plan}
-use Rattle.smk_laws_folder.specs.Progressing.{IsAlike}
-use Rattle.smk_laws_folder.proofs.Deriving.{derivation_goes_on}
-use Rattle.smk_laws_folder.proofs.InForce.{kept_is_last, kept_is_unrefused}
-use Rattle.smk_laws_folder.proofs.PlansAlike.{plan_same}
-use Rattle.smk_laws_rest.specs.Resting.{looked_states, refused_command}
-use Rattle.smk_laws_rest.proofs.Alike.{only_commands}
-use Rattle.smk_laws_rest.proofs.Commands.{HaveBegunSo, all_so, first_found, found_in, none_found, refusals, rules_by}
-use Rattle.smk_laws_rest.proofs.Named.{begun_at}
+use Rattle.smk_laws_turns.specs.InForce.{HasCommands, IsKeptFor, kept_plan}
+use Rattle.smk_laws_turns.specs.Progressing.{IsAlike}
+use Rattle.smk_laws_turns.proofs.Deriving.{derivation_goes_on}
+use Rattle.smk_laws_turns.proofs.InForce.{kept_is_last, kept_is_unrefused}
+use Rattle.smk_laws_turns.proofs.PlansAlike.{plan_same}
+use Rattle.smk_laws_turns.specs.Resting.{looked_states, refused_command}
+use Rattle.smk_laws_turns.proofs.Alike.{only_commands}
+use Rattle.smk_laws_turns.proofs.Commands.{HaveBegunSo, all_so, first_found, found_in, none_found, refusals, rules_by}
+use Rattle.smk_laws_turns.proofs.Named.{begun_at}
 use Rattle.smk_laws_turns.specs.Hubs.{Parts}
 use Rattle.smk_laws_growing.specs.Onward.{IsOnward}
 use Rattle.smk_laws_growing.proofs.Makers.{is_named}

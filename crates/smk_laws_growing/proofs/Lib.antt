@@ -1,3 +1,10 @@
+pub mod Staying
+pub mod Rows
+pub mod Held
+pub mod Known
+pub mod Seen
+pub mod Agreeing
+pub mod Alike
 pub mod Laws
 pub mod Seats
 pub mod Numbers

@@ -23,7 +23,7 @@ use Rattle.smk_laws_plan.proofs.CurrentPaths.{in_among}
 use Rattle.smk_laws_plan.proofs.PlanOne.{derived_apart}
 use Rattle.smk_laws_protocol.proofs.Basics.{by_test, none_of}
 use Rattle.smk_laws_moments.proofs.OwnSites.{of_rule, outs_are}
-use Rattle.smk_laws_starting.proofs.Spots.{has_output, no_source, owned, owned_between}
+use Rattle.smk_laws_moments.proofs.Spots.{has_output, no_source, owned, owned_between}
 
 -- the first of some paths
 first_in : (ps : List Path) → ps ≢ [] → IsIn ps (or_empty (first ps)) × (first ps ≡ Some (or_empty (first ps)))

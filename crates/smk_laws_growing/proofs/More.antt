@@ -17,7 +17,7 @@ use Rattle.smk_laws_plan.proofs.PlanOne.{derived}
 use Rattle.smk_laws_history.proofs.CurrentLaw.{listing_either}
 use Rattle.smk_laws_history.proofs.MoreListings.{listing_still, source_files, walk_more}
 use Rattle.smk_laws_protocol.proofs.Basics.{each_in, each_on}
-use Rattle.smk_laws_staying.specs.Staying.{IsListed}
+use Rattle.smk_laws_moments.specs.Staying.{IsListed}
 
 -- ## Listings that have become known
 

@@ -25,11 +25,11 @@ use Rattle.smk_drive_step.specs.Crews.{goings}
 use Rattle.smk_drive_course.specs.Stands.{Stand}
 use Rattle.smk_drive_course.specs.Stands as stands
 use Rattle.smk_drive_first.specs.Opening.{AreRules}
-use Rattle.smk_laws_folder.specs.InForce.{kept_plan}
-use Rattle.smk_laws_staying.specs.Staying.{IsListed}
-use Rattle.smk_laws_rest.specs.Growing.{IsMoreOf}
-use Rattle.smk_laws_rest.specs.Resting.{refused_command}
-use Rattle.smk_laws_rest.proofs.Commands.{rules_by}
+use Rattle.smk_laws_turns.specs.InForce.{kept_plan}
+use Rattle.smk_laws_moments.specs.Staying.{IsListed}
+use Rattle.smk_laws_turns.specs.Growing.{IsMoreOf}
+use Rattle.smk_laws_turns.specs.Resting.{refused_command}
+use Rattle.smk_laws_turns.proofs.Commands.{rules_by}
 use Rattle.smk_laws_turns.specs.Hubs.{AreApart, IsChildOf, IsOurs, Parts}
 use Rattle.smk_laws_growing.specs.Growing.{IsGrownBy}
 use Rattle.smk_laws_growing.specs.Moving.{moved, moved_child, new_number}

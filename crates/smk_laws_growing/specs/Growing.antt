@@ -17,8 +17,8 @@ use Rattle.smk_report.specs.declared.fault.Fault.TheVariants as fault
 use Rattle.smk_drive.specs.Moments.{Rules}
 use Rattle.smk_drive_step.specs.Crews.{is_device}
 use Rattle.smk_drive_first.specs.Opening.{AreRules}
-use Rattle.smk_laws_rest.specs.Growing.{IsBeside, IsMoreOf, IsMoreRefusal}
-use Rattle.smk_laws_rest.specs.Resting.{refused_command}
+use Rattle.smk_laws_turns.specs.Growing.{IsBeside, IsMoreOf, IsMoreRefusal}
+use Rattle.smk_laws_turns.specs.Resting.{refused_command}
 use Rattle.smk_laws_turns.specs.Hubs.{Parts}
 use Rattle.smk_laws_turns.specs.Turning.{faulted}
 use Rattle.smk_laws_growing.specs.Moving.{moved}

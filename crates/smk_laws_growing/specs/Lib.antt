@@ -1,3 +1,4 @@
+pub mod Grown
 pub mod Moving
 pub mod Growing
 pub mod Onward

@@ -21,8 +21,8 @@ use Rattle.smk_drive_pick.specs.Picking.{AreAlike}
 use Rattle.smk_drive_step.specs.Crews.{goings, halted_by}
 use Rattle.smk_drive_course.specs.Stands.{GoesBy, IsClear, IsReplanned, Stand, lists}
 use Rattle.smk_drive_first.specs.Opening.{AreRules}
-use Rattle.smk_laws_rest.specs.Resting.{IsSameRun, refused_command}
-use Rattle.smk_laws_staying.specs.Staying.{IsListed}
+use Rattle.smk_laws_turns.specs.Resting.{IsSameRun, refused_command}
+use Rattle.smk_laws_moments.specs.Staying.{IsListed}
 use Rattle.smk_laws_turns.specs.Hubs.{AreChildrenOf, AreRunning, IsCrew, IsHome, IsOurs, Parts, asks_in, child_of, plan_of}
 use Rattle.smk_laws_growing.specs.Growing.{HasGrownOn, IsGrownBy}
 

@@ -18,7 +18,7 @@ use Rattle.smk_report.specs.declared.fault.Fault.{Fault}
 use Rattle.smk_job.specs.Jobs.{bare_bytes, is_long}
 use Rattle.smk_drive.specs.Moments.{Begun, IsInForce, Rules, begun_of, lists_of, progress_of, seen, serial_of}
 use Rattle.smk_drive.specs.Refusals.{ChainRefuses, NextRefuses, PlanRefuses, record_length, refused_of}
-use Rattle.smk_drive_target.specs.Refusals.{LongRecord, MomentRefuses, NoSerial, PlansAreRefused}
+use Rattle.smk_drive_course.specs.Refusals.{LongRecord, MomentRefuses, NoSerial, PlansAreRefused}
 use Rattle.smk_drive_course.specs.Stands.{IsClear, Stand, moment_of}
 use Rattle.smk_drive_course.specs.Steps.{IsToBegin}
 use Rattle.smk_laws_moments.specs.Chains.{ChainGoesOn, ClearGoesOn, ClearStays, NextIsUnrefused}

@@ -1,3 +1,14 @@
+pub mod Listed
+pub mod Gathered
+pub mod StandsOn
+pub mod Planned
+pub mod Spots
+pub mod Inputs
+pub mod Keeping
+pub mod Others
+pub mod Restoring
+pub mod Next
+pub mod Starting
 pub mod LooksLike
 pub mod ChainsOn
 pub mod Fates

@@ -4,7 +4,7 @@ use Rattle.smk_world.specs.declared.event.Event.{Event}
 use Rattle.smk_world.specs.World.{World, after}
 use Rattle.smk_chain.specs.Derive.{Listings}
 use Rattle.smk_drive.specs.Moments.{Rules, Moment, Begun, IsMoment, AtRest, Between, IsInForce, begun_after, is_rest, lists_of}
-use Rattle.smk_drive_target.proofs.OneMoment.{one_moment}
+use Rattle.smk_drive_course.proofs.OneMoment.{one_moment}
 use Rattle.smk_drive_course.specs.Stands as stands
 use Rattle.smk_drive_course.specs.Stands.{IsReplanned, Stand, lists}
 use Rattle.smk_laws_moments.specs.Standing.{HasBegunAs, IsStandOf, ReplanningIsMoment}

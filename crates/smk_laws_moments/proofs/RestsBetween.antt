@@ -13,8 +13,8 @@ use Rattle.smk_plan.specs.States.{IsPlan, Plan, Progress, job_path}
 use Rattle.smk_laws_plan.specs.Current.{IsComplete}
 use Rattle.smk_drive.specs.Moments.{Begun, IsMoment, Moment, Rules, begun_after, is_rest, with_end}
 use Rattle.smk_drive.specs.Lawful.{is_wait}
-use Rattle.smk_drive_target.proofs.OneMoment.{one_moment}
-use Rattle.smk_drive_target.proofs.HasMoment.{has_moment}
+use Rattle.smk_drive_course.proofs.OneMoment.{one_moment}
+use Rattle.smk_drive_course.proofs.HasMoment.{has_moment}
 use Rattle.smk_drive_course.specs.Stands.{Between, Stand}
 use Rattle.smk_laws_moments.specs.Owning.{IsOwnCall}
 use Rattle.smk_laws_moments.specs.Standing.{IsStandOf}

@@ -20,8 +20,8 @@ use Rattle.smk_chain.specs.Derive.{Listings}
 use Rattle.smk_trigger.specs.declared.reason.State.{State}
 use Rattle.smk_plan.specs.States.{Plan}
 use Rattle.smk_drive.specs.Moments.{Rules, Moment, Begun, IsMoment, AtRest, Between, IsInForce, begins, begun_after, begun_of, is_gone, is_rest, is_spent_now, lists_of, staged_now, with_end}
-use Rattle.smk_drive_target.proofs.OneMoment.{one_moment}
-use Rattle.smk_drive_target.proofs.HasMoment.{has_moment}
+use Rattle.smk_drive_course.proofs.OneMoment.{one_moment}
+use Rattle.smk_drive_course.proofs.HasMoment.{has_moment}
 use Rattle.smk_drive_course.specs.Stands as stands
 use Rattle.smk_drive_course.specs.Stands.{GoesBy, GoesOn, IsRefused, IsReplanned, LacksMemory, Stand, WasHalted, lists, moment_of}
 use Rattle.smk_drive_course.specs.Steps.{AreRemoved, NoMore, OneMore}

@@ -24,11 +24,11 @@ use Rattle.smk_trigger.specs.declared.reason.State.{State}
 use Rattle.smk_plan.specs.States.{LastPlan, Plan}
 use Rattle.smk_keep.specs.declared.fault.KeepFault.{KeepFault}
 use Rattle.smk_drive.specs.Moments.{Rules, Moment, Begun, IsMoment, AtEntry, AtRest, Between, IsInForce, begins, begun_after, begun_of, is_gone, is_rest, lists_of, places, progress_of, seen, staged_now, with_end}
-use Rattle.smk_drive_target.specs.Moments.{IsStill}
-use Rattle.smk_drive_target.proofs.OneMoment.{one_moment}
-use Rattle.smk_drive_target.proofs.HasMoment.{has_moment}
-use Rattle.smk_drive_target.proofs.Looks.{looks_keep_moments}
-use Rattle.smk_drive_target.proofs.Fronts.{front_same, none_last}
+use Rattle.smk_drive_course.specs.Moments.{IsStill}
+use Rattle.smk_drive_course.proofs.OneMoment.{one_moment}
+use Rattle.smk_drive_course.proofs.HasMoment.{has_moment}
+use Rattle.smk_drive_course.proofs.Looks.{looks_keep_moments}
+use Rattle.smk_drive_course.proofs.Fronts.{front_same, none_last}
 use Rattle.smk_drive_course.specs.Stands.{IsPlanned, Stand, first_stand, lists, moment_of}
 use Rattle.smk_drive_course.specs.Driven.{IsOpening, LacksMemory, LoadingFails, LooksFail, Opens, SettlingFails}
 use Rattle.smk_laws_moments.specs.Standing.{FirstIsMoment, IsStandOf, LooksKeepStands, RefusedAtEntry}

@@ -1,3 +1,6 @@
+pub mod Staying
+pub mod Starting
+pub mod Opened
 pub mod Chains
 pub mod Courses
 pub mod Standing

@@ -9,7 +9,7 @@ use Rattle.smk_plan.specs.States.{Plan}
 use Rattle.smk_keep.specs.declared.fault.KeepFault.{KeepFault}
 use Rattle.smk_report.specs.declared.fault.Fault.{Fault}
 use Rattle.smk_drive.specs.Moments.{IsMoment, Moment, Rules, begun_after}
-use Rattle.smk_drive_target.specs.Refusals.{RunRefuses}
+use Rattle.smk_drive_course.specs.Refusals.{RunRefuses}
 use Rattle.smk_drive_course.specs.Stands.{IsPlanned, IsReplanned, Refuses, Stand, first_stand, lists}
 use Rattle.smk_drive_course.specs.Steps.{Deed, HasSpent}
 use Rattle.smk_drive_course.specs.Driven.{IsOpening}

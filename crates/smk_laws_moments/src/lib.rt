@@ -1,11 +1,42 @@
-//! Laws of a run's course: what holds at each of its stands, of each run that is one by the definitions.
+//! Laws of the stands of a run: what holds at each of them; jobs whose children run stay jobs of the plan in force; and a job that is next may begin in the
+//! protocol that keeps every crash image sound.
 #![tactic(auto)]
 
+ghost use Rattle.smk_laws_moments.specs.Staying.{DerivationStays, DerivedArePlanned, FirstIsDerived, ListedJobsStay, MidwayKeepsSources};
+ghost use Rattle.smk_laws_moments.specs.Staying.{ReplanningStaysDerived, StartIsDerived, StaysDerived, StepStaysDerived};
+ghost use Rattle.smk_laws_moments.specs.Starting.{OpeningStays, StartableMayBegin};
 ghost use Rattle.smk_laws_moments.specs.Between.{BetweenRestsIsMoment};
 ghost use Rattle.smk_laws_moments.specs.Chains.{ChainGoesOn, ClearGoesOn, ClearStays, NextIsUnrefused};
 ghost use Rattle.smk_laws_moments.specs.Courses.{AllAreWaited, BrokenIsHalted, ChildrenAreOfStand, FirstFaultStays, StartsAreTold, WaitsForChildren};
 ghost use Rattle.smk_laws_moments.specs.Owning.{OwnCallsBeginNone, OwnCallsKeepBegun};
 ghost use Rattle.smk_laws_moments.specs.Standing.{FirstIsMoment, LooksKeepStands, RefusedAtEntry, ReplanningIsMoment, SpendingIsMoment};
+
+/// Folders with the same sources derive the same jobs with the same listings; and a job whose gathered directories all have a listing stays as it is when
+/// further directories become known.
+pub fn derivations_stay()
+    ensures same { DerivationStays }
+    ensures listed { ListedJobsStay }
+{}
+
+/// Each job whose child runs is a job of the plan in force, with the inputs with which it began, at each stand of a run, as long as the sources stay; and they
+/// do in a run of the protocol.
+pub fn running_jobs_stay()
+    ensures first { FirstIsDerived }
+    ensures start { StartIsDerived }
+    ensures step { StepStaysDerived }
+    ensures anew { ReplanningStaysDerived }
+    ensures steps { StaysDerived }
+    ensures planned { DerivedArePlanned }
+    ensures sources { MidwayKeepsSources }
+{}
+
+/// A job that is next at a stand of a run may begin in the protocol, with its serial: what it makes and logs is apart from what other open
+/// jobs own or read, from its inputs, from sources and from what is known of other paths; its inputs are at hand with their stamps of now;
+/// and where it is restored, a record that it may write again stands at each of its outputs. It may still once the folder was looked at.
+pub fn startable_jobs_may_begin()
+    ensures begins { StartableMayBegin }
+    ensures stays { OpeningStays }
+{}
 
 /// A stand at which no plan is refused stays one while the folder is only looked at, and once its chain of plans begins with the listings of them all: a
 /// plan that is refused from there on is refused from the start of the chain on.

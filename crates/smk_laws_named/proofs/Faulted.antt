@@ -6,7 +6,7 @@ use Rattle.smk_keep.specs.declared.fault.KeepFault.{KeepFault}
 use Rattle.smk_keep.specs.declared.fault.KeepFault.TheVariants.{Device, OutOfMemory}
 use Rattle.smk_report.specs.declared.fault.Fault.{Fault}
 use Rattle.smk_report.specs.declared.fault.Fault.TheVariants as fault
-use Rattle.smk_succeed.specs.Completing.{DeviceFailed, MayBreakOff, NoMemory, SinkFailed}
+use Rattle.smk_laws_named.specs.Completing.{DeviceFailed, MayBreakOff, NoMemory, SinkFailed}
 use Rattle.smk_drive.specs.Moments.{Rules}
 use Rattle.smk_drive_course.specs.Reports.{may_lose}
 use Rattle.smk_drive_course.specs.Stands.{AtRest, Between, GoesBy, GoesOn, IsRefused, IsReplanned, LacksMemory, Refuses, Stand, WasHalted, first_fault, lists}

@@ -27,17 +27,17 @@ use Rattle.smk_laws_history.proofs.CurrentReads.{sources_alike}
 use Rattle.smk_laws_history.proofs.Valid.{records_valid}
 use Rattle.smk_laws_complete.specs.Derived.{AllHaveValues, AreRight, GathersAlone}
 use Rattle.smk_laws_complete.specs.Planned.{MayStop, TooMany}
-use Rattle.smk_laws_folder.proofs.Deriving.{derivation_goes_on}
+use Rattle.smk_laws_turns.proofs.Deriving.{derivation_goes_on}
 use Rattle.smk_laws_plan.specs.Signs.{HasOwnSigns}
 use Rattle.smk_base.specs.Path.{overlaps}
 use Rattle.smk_report.specs.declared.fault.Fault.TheVariants as fault
 use Rattle.smk_laws_complete.proofs.Calm.{clean_targets_are_derived}
 use Rattle.smk_laws_complete.proofs.Goods.{derived_jobs_are_good}
-use Rattle.smk_laws_listed.specs.Listed.{AreMeant, all_known}
-use Rattle.smk_laws_listed.proofs.Fewer.{sound_fewer}
-use Rattle.smk_laws_values.specs.Valued.{AreMeantBy, IsMeantPlan}
-use Rattle.smk_laws_values.proofs.Newly.{new_are_meant}
-use Rattle.smk_laws_values.proofs.Right.{meant_still, more_are_right}
+use Rattle.smk_laws_complete.specs.Listed.{AreMeant, all_known}
+use Rattle.smk_laws_complete.proofs.Fewer.{sound_fewer}
+use Rattle.smk_laws_complete.specs.Valued.{AreMeantBy, IsMeantPlan}
+use Rattle.smk_laws_complete.proofs.Newly.{new_are_meant}
+use Rattle.smk_laws_complete.proofs.Right.{meant_still, more_are_right}
 use Rattle.smk_laws_protocol.specs.Protocol.{RunState, eased}
 use Rattle.smk_laws_protocol.specs.Midway.{Midway}
 use Rattle.smk_laws_protocol.proofs.Basics.{each_in, each_on}
@@ -46,13 +46,13 @@ use Rattle.smk_report.specs.declared.fault.Fault.{Fault}
 use Rattle.smk_drive.specs.Moments.{Rules, progress_of, seen}
 use Rattle.smk_drive.specs.Refusals.{ChainRefuses, DerivationRefuses, IsFault, NextRefuses, PlanRefuses, refused_of}
 use Rattle.smk_drive_course.specs.Stands.{Stand}
-use Rattle.smk_drive_open.specs.Opened.{AreStillPlanned, IsStateOf}
+use Rattle.smk_laws_moments.specs.Opened.{AreStillPlanned, IsStateOf}
 use Rattle.smk_laws_moments.specs.Courses.{HasChildren}
-use Rattle.smk_laws_staying.specs.Staying.{IsDerivedStill, IsListed, IsPlanOfSources, derived_by}
-use Rattle.smk_laws_staying.proofs.Gathered.{gathered_source}
-use Rattle.smk_laws_staying.proofs.Planned.{derived_are_planned}
+use Rattle.smk_laws_moments.specs.Staying.{IsDerivedStill, IsListed, IsPlanOfSources, derived_by}
+use Rattle.smk_laws_moments.proofs.Gathered.{gathered_source}
+use Rattle.smk_laws_moments.proofs.Planned.{derived_are_planned}
 use Rattle.smk_laws_changes.proofs.Stays.{derived_on, listed_on}
-use Rattle.smk_laws_following.proofs.StandStates.{state_later}
+use Rattle.smk_laws_courses.proofs.StandStates.{state_later}
 use Rattle.smk_laws_driven.proofs.Good.{right_at}
 use Rattle.smk_laws_driven.proofs.Listed.{same_setting}
 use Rattle.smk_laws_driven.proofs.Restored as restored

@@ -25,15 +25,15 @@ use Rattle.smk_laws_complete.specs.Derived.{AllHaveValues, GathersAlone}
 use Rattle.smk_laws_protocol.specs.Midway.{IsTop, Midway}
 use Rattle.smk_laws_protocol.proofs.Basics.{each_in, each_of, each_on}
 use Rattle.smk_laws_protocol.proofs.MidwayHolds.{holds_midway}
-use Rattle.smk_made.proofs.Done.{follows_split}
+use Rattle.smk_safe.proofs.Done.{follows_split}
 use Rattle.smk_job.specs.Jobs.{Underway}
 use Rattle.smk_run.specs.Closings.{wait_event}
-use Rattle.smk_succeed.specs.Completing.{LongRecord as TooLongRecord, MayBreakOff, NoSerial as NoneLeft}
+use Rattle.smk_laws_named.specs.Completing.{LongRecord as TooLongRecord, MayBreakOff, NoSerial as NoneLeft}
 use Rattle.smk_report.specs.declared.fault.Fault.{Fault}
 use Rattle.smk_report.specs.declared.fault.Fault.TheVariants as fault
 use Rattle.smk_drive.specs.Moments.{Begun, IsInForce, Rules, begun_of, is_rest, is_spent_now, lists_of, progress_of, seen}
 use Rattle.smk_drive.specs.Refusals.{ChainRefuses}
-use Rattle.smk_drive_target.specs.Refusals.{LongRecord, NoSerial, PlansAreRefused}
+use Rattle.smk_drive_course.specs.Refusals.{LongRecord, NoSerial, PlansAreRefused}
 use Rattle.smk_drive_course.specs.Stands.{AtRest, Between, GoesBy, GoesOn, IsClear, IsRefused, IsReplanned, LacksMemory, Refuses, Stand, WasHalted, halted_by, lists, moment_of, with_job, without_child}
 use Rattle.smk_drive_course.specs.Steps.{AreRemoved, Deed, GoesByAnswer, HasBegun, HasClosed, HasSpent, IsAsListed, NoMore, OneMore, Unguarded}
 use Rattle.smk_drive_course.specs.Breaks.{Begins, BeginsNot, BreaksOff, Closes, Done, FailsToWait, Halts, Leaves, ReadsNot, Spends, SpendsNot, Step, Steps, Then, Waits}
@@ -41,12 +41,12 @@ use Rattle.smk_laws_moments.specs.Courses.{HasChildren, IsHaltedIfBroken, child_
 use Rattle.smk_laws_moments.proofs.ChildrenOf.{run_more}
 use Rattle.smk_laws_moments.proofs.Fates.{IsKept, answer_kept, begun_stand, first_fault_stays, goes_kept, kept_then, replanned_kept}
 use Rattle.smk_laws_moments.proofs.QuietCalls.{IsQuiet, quiet_children}
-use Rattle.smk_laws_staying.specs.Staying.{IsDerivedStill, IsListed, derived_by}
-use Rattle.smk_laws_staying.proofs.Gathered.{at_hand_is_listed}
-use Rattle.smk_laws_staying.proofs.Planned.{midway_keeps_sources}
-use Rattle.smk_laws_staying.proofs.StandsOn.{ended, last_done}
-use Rattle.smk_laws_starting.proofs.Next.{IsStarting, starting}
-use Rattle.smk_laws_following.specs.Following.{IsReached}
+use Rattle.smk_laws_moments.specs.Staying.{IsDerivedStill, IsListed, derived_by}
+use Rattle.smk_laws_moments.proofs.Gathered.{at_hand_is_listed}
+use Rattle.smk_laws_moments.proofs.Planned.{midway_keeps_sources}
+use Rattle.smk_laws_moments.proofs.StandsOn.{ended, last_done}
+use Rattle.smk_laws_moments.proofs.Next.{IsStarting, starting}
+use Rattle.smk_laws_courses.specs.Following.{IsReached}
 use Rattle.smk_laws_driven.proofs.Good.{stand_right}
 use Rattle.smk_laws_driven.proofs.Lasting.{WasClear, answer_clear, clear_force, step_broken, step_clear, unhalted_step}
 use Rattle.smk_laws_driven.proofs.Listed.{IsListedWell, all_meant, next_well}
@@ -57,7 +57,7 @@ use Rattle.smk_laws_driven.proofs.SoundNow.{sound_now}
 use Rattle.smk_laws_driven.proofs.Spending.{one_reached, IsLeft, aside_stays, removed_leave, spent_leaves}
 use Rattle.smk_laws_plan.specs.Signs.{HasOwnSigns}
 use Rattle.smk_laws_driven.proofs.Leaving.{clear_plan}
-use Rattle.smk_laws_folder.specs.Leaving.{AreOwnCalls}
+use Rattle.smk_laws_turns.specs.Leaving.{AreOwnCalls}
 use Rattle.smk_laws_history.proofs.CurrentLaw.{last_is}
 use Rattle.smk_pick.specs.declared.settings.Settings.{Settings}
 use Rattle.smk_flow.specs.Flows.{Flow}

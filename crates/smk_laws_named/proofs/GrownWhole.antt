@@ -18,16 +18,16 @@ use Rattle.smk_laws_complete.specs.Derived.{AllHaveValues, GathersAlone}
 use Rattle.smk_laws_complete.proofs.Calm.{no_listing_is_right}
 use Rattle.smk_laws_complete.proofs.Stops.{clean_targets_are_planned}
 use Rattle.smk_report.specs.declared.fault.Fault.{Fault}
-use Rattle.smk_succeed.specs.Completing.{LongRecord as TooLongRecord, NoSerial as NoneLeft}
+use Rattle.smk_laws_named.specs.Completing.{LongRecord as TooLongRecord, NoSerial as NoneLeft}
 use Rattle.smk_drive.specs.Moments.{Moment, Rules, progress_of, seen}
 use Rattle.smk_drive.specs.Refusals.{ChainRefuses}
-use Rattle.smk_drive_target.specs.Refusals.{LongRecord, MomentRefuses, NoSerial, PlansAreRefused}
+use Rattle.smk_drive_course.specs.Refusals.{LongRecord, MomentRefuses, NoSerial, PlansAreRefused}
 use Rattle.smk_drive_course.specs.declared.ending.End.{End}
 use Rattle.smk_drive_course.specs.Stands.{first_stand, moment_of}
 use Rattle.smk_drive_course.specs.Steps.{Deed}
 use Rattle.smk_drive_course.specs.Driven.{IsAnswer, IsRun}
 use Rattle.smk_laws_moments.proofs.Fates.{first_fault_stays}
-use Rattle.smk_laws_staying.specs.Staying.{IsDerivedStill, derived_by}
+use Rattle.smk_laws_moments.specs.Staying.{IsDerivedStill, derived_by}
 use Rattle.smk_laws_driven.proofs.Lasting.{answer_broken, start_clear}
 use Rattle.smk_laws_driven.proofs.Listed.{start_well}
 use Rattle.smk_laws_driven.proofs.Reaching as reaching

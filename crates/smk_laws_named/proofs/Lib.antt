@@ -1,3 +1,8 @@
+pub mod Succeeding
+pub mod Feeding
+pub mod Looking
+pub mod Planning
+pub mod Completing
 pub mod Stopping
 pub mod Refused
 pub mod Signed

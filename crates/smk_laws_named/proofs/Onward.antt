@@ -16,7 +16,7 @@ use Rattle.smk_laws_plan.specs.Signs.{HasOwnSigns}
 use Rattle.smk_laws_history.proofs.CurrentComplete.{seen_is_complete}
 use Rattle.smk_laws_complete.specs.Derived.{AllHaveValues, GathersAlone}
 use Rattle.smk_laws_protocol.specs.Midway.{IsTop}
-use Rattle.smk_made.proofs.Done.{follows_split}
+use Rattle.smk_safe.proofs.Done.{follows_split}
 use Rattle.smk_run.specs.Closings.{wait_event}
 use Rattle.smk_report.specs.declared.fault.Fault.{Fault}
 use Rattle.smk_report.specs.declared.fault.Fault.TheVariants as fault
@@ -27,11 +27,11 @@ use Rattle.smk_drive_course.specs.Steps.{AreRemoved, Deed, HasBegun, HasClosed, 
 use Rattle.smk_drive_course.specs.Breaks.{Begins, BeginsNot, BreaksOff, Closes, Done, FailsToWait, Halts, Leaves, ReadsNot, Spends, SpendsNot, Step, Steps, Then, Waits}
 use Rattle.smk_laws_moments.proofs.ChildrenOf.{run_more}
 use Rattle.smk_laws_moments.proofs.Fates.{first_fault_stays}
-use Rattle.smk_laws_staying.specs.Staying.{derived_by}
-use Rattle.smk_laws_starting.proofs.Next.{IsStarting, starting}
+use Rattle.smk_laws_moments.specs.Staying.{derived_by}
+use Rattle.smk_laws_moments.proofs.Next.{IsStarting, starting}
 use Rattle.smk_laws_courses.proofs.AllStands.{protocol_keeps}
-use Rattle.smk_laws_following.specs.Following.{IsGiven, IsReached}
-use Rattle.smk_laws_following.proofs.Laws.{steps_follow}
+use Rattle.smk_laws_courses.specs.Following.{IsGiven, IsReached}
+use Rattle.smk_laws_courses.proofs.Laws.{steps_follow}
 use Rattle.smk_laws_driven.specs.Ended.{PlansArePlain}
 use Rattle.smk_laws_driven.proofs.Lasting.{unhalted_step}
 use Rattle.smk_laws_driven.proofs.Spending.{IsLeft, aside_stays, removed_leave, spent_leaves}

@@ -7,7 +7,7 @@ use Rattle.smk_world.specs.Runs.{Follows}
 use Rattle.smk_world.specs.Trees.{Act}
 use Rattle.smk_store.specs.Images.{image_by}
 use Rattle.smk_keep.specs.declared.fault.KeepFault.{KeepFault}
-use Rattle.smk_made.proofs.Done.{follows_split}
+use Rattle.smk_safe.proofs.Done.{follows_split}
 use Rattle.smk_report.specs.declared.fault.Fault.{Fault}
 use Rattle.smk_drive.specs.Moments.{Rules, seen}
 use Rattle.smk_drive_course.specs.Stands.{Stand, first_fault}

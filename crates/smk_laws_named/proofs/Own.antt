@@ -26,10 +26,10 @@ use Rattle.smk_run.specs.Closings.{wait_event}
 use Rattle.smk_drive.specs.Moments.{Begun, Rules}
 use Rattle.smk_drive_course.specs.Stands.{Stand, lists}
 use Rattle.smk_drive_course.specs.Steps.{Deed, HasBegun, HasClosed, guards_of}
-use Rattle.smk_drive_open.specs.Opened.{IsOpen, opened}
-use Rattle.smk_laws_folder.specs.Leaving.{AreOwnCalls}
-use Rattle.smk_laws_staying.specs.Staying.{IsDerivedStill, derived_by}
-use Rattle.smk_laws_following.specs.Following.{IsReached}
+use Rattle.smk_laws_moments.specs.Opened.{IsOpen, opened}
+use Rattle.smk_laws_turns.specs.Leaving.{AreOwnCalls}
+use Rattle.smk_laws_moments.specs.Staying.{IsDerivedStill, derived_by}
+use Rattle.smk_laws_courses.specs.Following.{IsReached}
 use Rattle.smk_laws_driven.proofs.OwnCalls.{begin_own, close_own, looks_own, own_more, tend_own}
 use Rattle.smk_laws_driven.proofs.Waiting.{owned_is}
 

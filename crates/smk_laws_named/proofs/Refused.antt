@@ -17,14 +17,14 @@ use Rattle.smk_laws_complete.specs.Planned.{MayStop}
 use Rattle.smk_laws_complete.proofs.Calm.{no_listing_is_right}
 use Rattle.smk_laws_complete.proofs.Goods.{derived_jobs_are_good}
 use Rattle.smk_laws_protocol.proofs.Basics.{each_in}
-use Rattle.smk_laws_folder.proofs.Deriving.{derivation_goes_on}
-use Rattle.smk_laws_staying.specs.Staying.{derived_by}
+use Rattle.smk_laws_turns.proofs.Deriving.{derivation_goes_on}
+use Rattle.smk_laws_moments.specs.Staying.{derived_by}
 use Rattle.smk_report.specs.declared.fault.Fault.{Fault}
 use Rattle.smk_safe.specs.Planned.{IsPlain}
-use Rattle.smk_succeed.specs.Completing.{LongRecord as TooLongRecord, NoSerial as NoneLeft}
+use Rattle.smk_laws_named.specs.Completing.{LongRecord as TooLongRecord, NoSerial as NoneLeft}
 use Rattle.smk_drive.specs.Moments.{Moment, Rules, progress_of, seen}
 use Rattle.smk_drive.specs.Refusals.{ChainRefuses, DerivationRefuses, NextRefuses, PlanRefuses}
-use Rattle.smk_drive_target.specs.Refusals.{LongRecord, MomentRefuses, NoSerial, PlansAreRefused}
+use Rattle.smk_drive_course.specs.Refusals.{LongRecord, MomentRefuses, NoSerial, PlansAreRefused}
 use Rattle.smk_laws_driven.specs.Ended.{PlansArePlain}
 use Rattle.smk_laws_driven.proofs.Unlisted.{none_new}
 use Rattle.smk_laws_named.specs.Named.{IsNamed}

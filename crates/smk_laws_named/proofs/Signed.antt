@@ -15,9 +15,9 @@ use Rattle.smk_laws_plan.specs.Current.{IsComplete}
 use Rattle.smk_laws_plan.specs.Signs.{HasOwnSigns}
 use Rattle.smk_laws_protocol.proofs.Basics.{by_test}
 use Rattle.smk_drive.specs.Moments.{Rules, seen}
-use Rattle.smk_laws_folder.specs.Leaving.{AreOwnCalls}
-use Rattle.smk_laws_folder.proofs.Leaving.{own_calls_leave}
-use Rattle.smk_laws_folder.proofs.Off.{signs_are_off}
+use Rattle.smk_laws_turns.specs.Leaving.{AreOwnCalls}
+use Rattle.smk_laws_turns.proofs.Leaving.{own_calls_leave}
+use Rattle.smk_laws_turns.proofs.Off.{signs_are_off}
 use Rattle.smk_laws_changes.proofs.JobPaths.{log_spot, note_off, output_spot, owned_paths_are}
 use Rattle.smk_laws_plan.proofs.CurrentPaths.{among_in}
 use Rattle.smk_laws_plan.proofs.CurrentLists.{flat_in, in_flat, in_map, map_in}

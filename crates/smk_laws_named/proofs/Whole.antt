@@ -19,24 +19,24 @@ use Rattle.smk_laws_history.proofs.Valid.{records_valid}
 use Rattle.smk_laws_complete.specs.Derived.{AllHaveValues, GathersAlone}
 use Rattle.smk_laws_complete.proofs.Stops.{clean_targets_are_planned}
 use Rattle.smk_laws_protocol.specs.Midway.{IsTop}
-use Rattle.smk_made.proofs.Done.{follows_split}
+use Rattle.smk_safe.proofs.Done.{follows_split}
 use Rattle.smk_report.specs.declared.fault.Fault.{Fault}
 use Rattle.smk_safe.specs.Planned.{IsPlain}
-use Rattle.smk_succeed.specs.Completing.{LongRecord as TooLongRecord, NoSerial as NoneLeft}
+use Rattle.smk_laws_named.specs.Completing.{LongRecord as TooLongRecord, NoSerial as NoneLeft}
 use Rattle.smk_drive.specs.Moments.{IsInForce, Moment, Rules, greatest, progress_of, seen}
 use Rattle.smk_drive.specs.Refusals.{ChainRefuses}
-use Rattle.smk_drive_target.specs.Refusals.{LongRecord, MomentRefuses, NoSerial, PlansAreRefused}
+use Rattle.smk_drive_course.specs.Refusals.{LongRecord, MomentRefuses, NoSerial, PlansAreRefused}
 use Rattle.smk_drive_course.specs.declared.ending.End.{End}
 use Rattle.smk_drive_course.specs.Stands.{IsClear, first_stand, moment_of}
 use Rattle.smk_drive_course.specs.Steps.{Deed}
 use Rattle.smk_drive_course.specs.Driven.{IsAnswer, IsRun}
 use Rattle.smk_laws_moments.proofs.Fates.{IsKept, answer_kept, first_fault_stays}
 use Rattle.smk_laws_plan.specs.Signs.{HasOwnSigns}
-use Rattle.smk_laws_staying.specs.Staying.{derived_by}
-use Rattle.smk_laws_staying.proofs.StandsOn.{start_is_derived}
-use Rattle.smk_laws_following.specs.Following.{GuardsAreOutputs, IsReached}
-use Rattle.smk_laws_following.proofs.Greatest.{greatest_is_top}
-use Rattle.smk_laws_following.proofs.Opening.{opening_leads}
+use Rattle.smk_laws_moments.specs.Staying.{derived_by}
+use Rattle.smk_laws_moments.proofs.StandsOn.{start_is_derived}
+use Rattle.smk_laws_courses.specs.Following.{GuardsAreOutputs, IsReached}
+use Rattle.smk_laws_courses.proofs.Greatest.{greatest_is_top}
+use Rattle.smk_laws_courses.proofs.Opening.{opening_leads}
 use Rattle.smk_laws_driven.specs.Ended.{PlansArePlain}
 use Rattle.smk_laws_driven.proofs.Lasting.{answer_clear}
 use Rattle.smk_laws_driven.proofs.Leaving.{clear_plan}

@@ -14,7 +14,7 @@ use Rattle.smk_chain.specs.Mean.{setting_of}
 use Rattle.smk_report.specs.declared.fault.Fault.{Fault}
 use Rattle.smk_report.specs.declared.fault.Fault.TheVariants as fault
 use Rattle.smk_laws_complete.specs.Derived.{AllHaveValues, GathersAlone}
-use Rattle.smk_laws_listed.specs.Listed.{AreMeant, all_known}
+use Rattle.smk_laws_complete.specs.Listed.{AreMeant, all_known}
 use Rattle.smk_drive.specs.Moments.{Rules, seen}
 use Rattle.smk_drive.specs.Refusals.{IsFault}
 use Rattle.smk_drive_course.specs.declared.ending.End.{End}

@@ -13,7 +13,7 @@ use Rattle.smk_laws_complete.specs.Planned.{MayStop}
 use Rattle.smk_drive.specs.Moments.{Rules, seen}
 use Rattle.smk_drive_course.specs.declared.ending.End.{End}
 use Rattle.smk_drive_course.specs.Driven.{HasDriven}
-use Rattle.smk_succeed.specs.Completing.{MayBreakOff}
+use Rattle.smk_laws_named.specs.Completing.{MayBreakOff}
 use Rattle.smk_laws_driven.specs.Ended.{PlansArePlain, setting_in}
 
 -- The run may be refused so, at its entry or later: for too many paths; for what clashes by the plans of its entry; or for how the folder stands, or what the

@@ -1,1 +1,3 @@
+mod Again
+mod Filling
 pub mod Alone

@@ -1,1 +1,2 @@
+pub mod NamedLogs
 pub mod Reading

@@ -9,7 +9,7 @@ use Rattle.smk_plan.specs.States.{Plan}
 use Rattle.smk_report.specs.declared.fault.Fault.{Fault}
 use Rattle.smk_drive.specs.Moments.{AtEntry, AtRest, Between, IsMoment, Moment, Rules, lists_of}
 use Rattle.smk_drive.specs.Lawful.{first_of}
-use Rattle.smk_drive_target.specs.Refusals.{LongRecord, MomentRefuses, NoSerial, PlansAreRefused}
+use Rattle.smk_drive_course.specs.Refusals.{LongRecord, MomentRefuses, NoSerial, PlansAreRefused}
 use Rattle.smk_drive_course.specs.Stands.{IsClear, NoneLeft, Refuses, Stand, lists, moment_of}
 use Rattle.smk_laws_moments.specs.Chains.{from_lists}
 use Rattle.smk_laws_moments.specs.Standing.{IsStandOf}

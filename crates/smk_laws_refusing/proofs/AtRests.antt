@@ -4,9 +4,9 @@ use Rattle.smk_world.specs.declared.event.Event.{Event}
 use Rattle.smk_world.specs.World.{World, IsFormed, run}
 use Rattle.smk_report.specs.declared.fault.Fault.{Fault}
 use Rattle.smk_drive.specs.Moments.{AtEntry, AtRest, Between, IsMoment, Moment, Rules, is_rest}
-use Rattle.smk_drive_target.specs.Refusals.{LongRecord, MomentRefuses, NoSerial, PlansAreRefused}
-use Rattle.smk_drive_target.proofs.Fronts.{front_same, none_last}
-use Rattle.smk_drive_target.proofs.OneMoment.{one_moment}
+use Rattle.smk_drive_course.specs.Refusals.{LongRecord, MomentRefuses, NoSerial, PlansAreRefused}
+use Rattle.smk_drive_course.proofs.Fronts.{front_same, none_last}
+use Rattle.smk_drive_course.proofs.OneMoment.{one_moment}
 use Rattle.smk_drive_course.specs.Stands.{AtRest as AnewAtRest, Between as AnewBetween, IsReplanned, Refuses, Stand, lists, moment_of}
 use Rattle.smk_laws_moments.proofs.StandsOf.{world_is}
 use Rattle.smk_laws_refusing.specs.Refusing.{AnewRefusesAsMoment}

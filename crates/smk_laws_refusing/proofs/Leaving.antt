@@ -24,7 +24,7 @@ use Rattle.smk_run.specs.Reports.{HasReported}
 use Rattle.smk_run.proofs.Calls.{cut_each, done_each, each_append}
 use Rattle.smk_drive.specs.Moments.{Rules, seen}
 use Rattle.smk_drive.specs.Refusals.{ChainRefuses}
-use Rattle.smk_drive_target.specs.Refusals.{LongRecord, NoSerial, PlansAreRefused}
+use Rattle.smk_drive_course.specs.Refusals.{LongRecord, NoSerial, PlansAreRefused}
 use Rattle.smk_drive_course.specs.declared.ending.End.{End}
 use Rattle.smk_drive_course.specs.Stands.{GoesBy, GoesOn, IsClear, IsRefused, LacksMemory, Refuses, Stand, WasHalted, first_fault, first_stand}
 use Rattle.smk_drive_course.specs.Steps.{AreRemoved, Deed, GoesByAnswer, IsWaitFor, NoMore, OneMore}

@@ -1,3 +1,6 @@
+pub mod Heeding
+pub mod Moves
+pub mod Parts
 pub mod AsMoments
 pub mod AtRests
 pub mod Clear

@@ -12,7 +12,7 @@ use Rattle.smk_report.specs.declared.fault.Fault.{Fault}
 use Rattle.smk_report.specs.declared.fault.Fault.TheVariants as fault
 use Rattle.smk_drive.specs.Moments.{Rules, progress_of, seen}
 use Rattle.smk_drive.specs.Refusals.{ChainRefuses}
-use Rattle.smk_drive_target.specs.Refusals.{RunRefuses}
+use Rattle.smk_drive_course.specs.Refusals.{RunRefuses}
 use Rattle.smk_drive_course.specs.declared.ending.End.{End}
 use Rattle.smk_drive_course.specs.Stands.{AtRest, Between, GoesBy, GoesOn, IsRefused, LacksMemory, WasHalted, IsReplanned, Refuses, Stand}
 use Rattle.smk_drive_course.specs.Stands.{broken_by_device, first_fault, first_stand, halted_by}

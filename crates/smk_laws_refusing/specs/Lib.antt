@@ -1,2 +1,4 @@
+pub mod Heeding
+pub mod Parts
 pub mod Leaving
 pub mod Refusing

@@ -13,7 +13,7 @@ use Rattle.smk_keep.specs.declared.fault.KeepFault.{KeepFault}
 use Rattle.smk_report.specs.declared.fault.Fault.{Fault}
 use Rattle.smk_drive.specs.Moments.{IsMoment, Moment, Rules, progress_of, seen}
 use Rattle.smk_drive.specs.Refusals.{ChainRefuses}
-use Rattle.smk_drive_target.specs.Refusals.{MomentRefuses, RunRefuses}
+use Rattle.smk_drive_course.specs.Refusals.{MomentRefuses, RunRefuses}
 use Rattle.smk_drive_course.specs.declared.ending.End.{End}
 use Rattle.smk_drive_course.specs.Stands.{IsClear, IsPlanned, IsReplanned, NoneLeft, Refuses, Stand, first_stand, halted_by, lists}
 use Rattle.smk_drive_course.specs.Steps.{Deed, GoesByAnswer, IsToBegin}

@@ -1,9 +1,28 @@
-//! Laws of a run's course: what is refused in it, and how it ends then.
+//! Laws of the lock around a run, and of what is refused in its course, and how it ends then.
 #![tactic(auto)]
 
+ghost use Rattle.smk_laws_refusing.specs.Heeding.{LockChangesItselfAlone, RefusalsHeedNoLock, LastPlansHeedNoLock, PreviewsHeedNoLock};
+ghost use Rattle.smk_laws_refusing.specs.Parts.{LockCallsAreRuns, PartsAreSafe, PartsAreCall};
 ghost use Rattle.smk_laws_refusing.specs.Leaving.{RefusedAtEntryFails, RefusedAtEntryLeavesAll};
 ghost use Rattle.smk_laws_refusing.specs.Refusing.{AnewRefusesAsMoment, BeginsOnceLooked, BeginsWhereNoneRefuses, ClearRefusesAsMoment, FirstFaultEnds};
 ghost use Rattle.smk_laws_refusing.specs.Refusing.{LooksKeepRefusals, NoneLeftNoneRefuses, RefusalIsMet, RefusedAtEntryEnds, UnhaltedWasClear};
+
+/// Where nothing has changed but the lock and the folders above it, the folder reads as before but for the lock; and plans and their refusals hang on
+/// no lock.
+pub fn plans_heed_no_lock()
+    ensures alone { LockChangesItselfAlone }
+    ensures refused { RefusalsHeedNoLock }
+    ensures last { LastPlansHeedNoLock }
+    ensures previewed { PreviewsHeedNoLock }
+{}
+
+/// Calls on the lock follow the protocol of runs. Runs of the protocol one after another, each begun when no child is left, keep the folder safe as one
+/// run does, and stand in a history as one call.
+pub fn locked_runs_are_safe()
+    ensures calls { LockCallsAreRuns }
+    ensures safe { PartsAreSafe }
+    ensures call { PartsAreCall }
+{}
 
 /// What is refused at a clear stand is refused at the moment of the log that it is, and the other way round; so is what is refused at a stand as it comes
 /// about. Nothing is refused where a job is to begin, nor

@@ -35,7 +35,7 @@ use Rattle.smk_laws_moments.specs.Courses.{HasChildren, begun_jobs, started_job,
 use Rattle.smk_laws_moments.proofs.ChildrenOf.{children_are_of_stand}
 use Rattle.smk_laws_moments.proofs.Fates.{answer_kept, broken_is_halted, first_fault_stays, goes_kept, kept_then, removed_kept, replanned_kept, starts_are_told}
 use Rattle.smk_laws_turns.specs.Hubs.{AreChildrenOf, AreSpaced, AreApart, IsAt, IsChildOf, IsCountOf, IsCrew, IsHome, IsOurs, IsRecordable, Parts}
-use Rattle.smk_laws_staying.specs.Staying.{IsListed}
+use Rattle.smk_laws_moments.specs.Staying.{IsListed}
 use Rattle.smk_laws_turns.specs.Turning.{BeginningBreaks, BeginningLeads, ClosingBreaks, ClosingLeads, FailedWaitLeads, GrowingLeads, HaltLeads, HasLed, LeavingLeads, ReadingBreaks, SpendingBreaks, SpendingLeads, TellsGrown, TellsOf, WaitLeads, faulted}
 use Rattle.smk_laws_turns.proofs.Crew.{crew_busy, crew_grows, crew_shrinks}
 

@@ -39,7 +39,7 @@ use Rattle.smk_drive_course.specs.Steps.{Deed}
 use Rattle.smk_drive_course.specs.Reports.{failures, is_done, is_started}
 use Rattle.smk_laws_moments.specs.Courses.{begun_jobs, started_jobs}
 use Rattle.smk_laws_plan.specs.Signs.{HasOwnSigns}
-use Rattle.smk_laws_staying.specs.Staying.{IsListed}
+use Rattle.smk_laws_moments.specs.Staying.{IsListed}
 
 -- All that a run keeps: the plan, the room that is left, the children in their places, the serial that is drawn next, the counts, the first fault, if one
 -- came, and whether lines still go to the sink.

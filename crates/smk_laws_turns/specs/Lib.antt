@@ -1,3 +1,13 @@
+pub mod Resting
+pub mod Growing
+pub mod Changing
+pub mod Agreeing
+pub mod Progressing
+pub mod InForce
+pub mod Places
+pub mod Deriving
+pub mod Leaving
+pub mod Off
 pub mod Hubs
 pub mod Turning
 pub mod Going

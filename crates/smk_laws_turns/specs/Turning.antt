@@ -25,7 +25,7 @@ use Rattle.smk_drive_step.specs.Crews.{IsPutFor, goings, halted_by, is_device}
 use Rattle.smk_drive_course.specs.Stands.{NoneLeft, Refuses, Stand}
 use Rattle.smk_drive_course.specs.Steps.{Deed, HasBegun, HasClosed, HasSpent, Started}
 use Rattle.smk_drive_course.specs.Breaks.{HasBrokenOff, HasLeft, HasNotBegun, HasNotRead, HasNotSpent, Step}
-use Rattle.smk_laws_staying.specs.Staying.{IsListed}
+use Rattle.smk_laws_moments.specs.Staying.{IsListed}
 use Rattle.smk_laws_turns.specs.Hubs.{AreChildrenOf, AreSpaced, IsAt, IsCountOf, IsCrew, IsHome, IsKept, IsOurs, IsRecordable, Parts}
 
 -- ## Children

@@ -8,7 +8,7 @@ use smk_base::{OutOfMemory as Refused, Text};
 use std::alloc::{AllocError, AllocFailed};
 
 /// The signs `: , = ( ) [ ] . +` and `>`.
-#[derive(Clone, Copy, Debug, PartialEq, Eq)]
+#[derive(Clone, Copy, PartialEq, Eq)]
 pub enum Sign {
     Colon,
     Comma,
@@ -23,7 +23,7 @@ pub enum Sign {
 }
 
 /// A token with its value, each with its place in the source.
-#[derive(Debug, Drop)]
+#[derive(Drop)]
 pub enum Symbol {
     Name(u64, Text),
     Number(u64, u64),
@@ -36,7 +36,7 @@ pub enum Symbol {
 }
 
 /// Why symbols are not what the grammar reads. Each but the last has the place of the token at which it stands.
-#[derive(Clone, Copy, Debug, PartialEq, Eq)]
+#[derive(Clone, Copy, PartialEq, Eq)]
 pub enum ParseFault {
     /// The grammar does not go on with this token.
     Unexpected(u64),
@@ -72,7 +72,7 @@ impl<T: Drop> From<AllocFailed<T>> for ParseFault {
 }
 
 /// What a name means where an expression may begin.
-#[derive(Clone, Copy, Debug, PartialEq, Eq)]
+#[derive(Clone, Copy, PartialEq, Eq)]
 pub enum Keyword {
     True,
     False,

@@ -10,7 +10,7 @@ use smk_parse_expr::Sign;
 use std::alloc::Global;
 
 /// A symbol that is lent to be written.
-#[derive(Clone, Copy, Debug)]
+#[derive(Clone, Copy)]
 pub enum Lent<'a> {
     Name(&'a str),
     Number(u64),

@@ -12,7 +12,7 @@ use std::alloc::{AllocError, AllocFailed, Global};
 use std::marker::Model;
 
 /// A constraint: its text, and what `regex` made of it for a value as a whole. Contracts see the text.
-#[derive(Debug, Drop)]
+#[derive(Drop)]
 pub(crate) struct Limit {
     text: Text,
     whole: Regex,
@@ -30,7 +30,7 @@ impl Model for Limit {
 }
 
 /// Why a text is no constraint.
-#[derive(Debug, Drop)]
+#[derive(Drop)]
 pub(crate) enum LimitFault {
     /// `regex` reads no pattern in it, or it nests too deep.
     NoRegex,

@@ -11,7 +11,7 @@ use std::rc::Rc;
 
 /// Constraints that were compiled, each once for its text. Patterns that are read with the same `Limits` share what `regex` made of
 /// equal constraints. Contracts see nothing of it, since it changes no answer.
-#[derive(Debug, Drop)]
+#[derive(Drop)]
 pub struct Limits {
     by_text: BTreeMap<String, Rc<Limit>>,
 }

@@ -10,14 +10,14 @@ use std::marker::Model;
 use std::rc::Rc;
 
 /// A piece of a pattern: a text, or a wildcard by its number.
-#[derive(Debug, Drop)]
+#[derive(Drop)]
 pub(crate) enum Piece {
     Literal(Text),
     Wild(usize),
 }
 
 /// A wildcard by its name, with its constraint.
-#[derive(Debug, Drop)]
+#[derive(Drop)]
 pub(crate) struct Wildcard {
     pub(crate) name: Text,
     pub(crate) limit: Option<Rc<Limit>>,
@@ -25,7 +25,7 @@ pub(crate) struct Wildcard {
 
 /// A text with wildcards, which have numbers in the order in which they first stand. Contracts see its parts and its wildcards, each
 /// with the text of its constraint.
-#[derive(Debug, Drop)]
+#[derive(Drop)]
 pub struct Pattern {
     pub(crate) pieces: List<Piece>,
     pub(crate) wildcards: List<Wildcard>,
@@ -46,7 +46,7 @@ impl Model for Pattern {
 pub type Binding = List<Pair>;
 
 /// Why a text is no pattern.
-#[derive(Debug, Drop)]
+#[derive(Drop)]
 pub enum PatternFault {
     /// It isn't written as a pattern.
     BadPattern,
@@ -57,7 +57,7 @@ pub enum PatternFault {
 }
 
 /// Why a pattern can't be filled.
-#[derive(Debug, Drop)]
+#[derive(Drop)]
 pub enum FillFault {
     /// This name has no value.
     UnknownWildcard(Text),

@@ -11,7 +11,7 @@ use smk_base::{Amount, Copied, List, OutOfMemory, Text};
 use std::alloc::Global;
 
 /// What a job asks for.
-#[derive(Debug, Drop)]
+#[derive(Drop)]
 pub struct Ask {
     pub threads: u64,
     pub amounts: List<Amount>,
@@ -19,14 +19,14 @@ pub struct Ask {
 }
 
 /// A bounded resource, and how much of it is in use.
-#[derive(Debug, Drop)]
+#[derive(Drop)]
 pub(crate) struct Share {
     bound: Amount,
     used: u64,
 }
 
 /// Cores and bounded resources, and how much of each is in use. There are few bounds, so they are gone over one by one.
-#[derive(Debug, Drop)]
+#[derive(Drop)]
 pub struct Room {
     cores: u64,
     threads: u64,

@@ -1,7 +1,7 @@
 use smk_base::{Amount, List, PathText};
 
 /// Which jobs are run whatever their records say.
-#[derive(Clone, Copy, Debug, PartialEq, Eq)]
+#[derive(Clone, Copy, PartialEq, Eq)]
 pub enum Force {
     No,
     /// Those that make a target.
@@ -10,7 +10,7 @@ pub enum Force {
 }
 
 /// What a run is to do.
-#[derive(Debug, Drop)]
+#[derive(Drop)]
 pub struct Settings {
     pub targets: List<PathText>,
     pub cores: u64,

@@ -1,5 +1,5 @@
 /// What a run does with a job.
-#[derive(Clone, Copy, Debug, PartialEq, Eq)]
+#[derive(Clone, Copy, PartialEq, Eq)]
 pub enum Duty {
     /// Nothing: its records stand, with this serial.
     Rest(u64),

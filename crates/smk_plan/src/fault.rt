@@ -1,7 +1,7 @@
 use smk_base::{List, PathText, Text};
 
 /// Why the outputs couldn't be looked at.
-#[derive(Debug, Drop)]
+#[derive(Drop)]
 pub enum LookFault {
     /// The device failed.
     Device,
@@ -9,7 +9,7 @@ pub enum LookFault {
 }
 
 /// Why a plan is refused.
-#[derive(Debug, Drop)]
+#[derive(Drop)]
 pub enum PlanFault {
     /// These outputs are marked: their jobs weren't finished.
     Incomplete {

@@ -7,7 +7,7 @@ use smk_world::Stat;
 use std::marker::Model;
 
 /// What stands at a path.
-#[derive(Debug, Drop)]
+#[derive(Drop)]
 pub struct Sight {
     pub path: PathText,
     pub stat: Stat,
@@ -20,7 +20,7 @@ pub struct Sight {
 }
 
 /// What stands at each output and each source of some jobs, by rising paths. Contracts see the list of sights.
-#[derive(Debug, Drop)]
+#[derive(Drop)]
 pub struct Seen {
     sights: List<Sight>,
 }

@@ -1,7 +1,7 @@
 use smk_base::List;
 
 /// Which outputs of some jobs are whole, and what is whole of the paths that these jobs and their targets want.
-#[derive(Debug, Drop)]
+#[derive(Drop)]
 pub struct Wholes {
     /// For each job, for each of its outputs in order: whether it is whole.
     pub outputs: List<List<bool>>,

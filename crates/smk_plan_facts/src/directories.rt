@@ -15,7 +15,7 @@ use smk_world::{Kind, Out, OutItem, Stat};
 use std::alloc::Global;
 
 /// A directory output, and whether it is whole.
-#[derive(Debug, Drop)]
+#[derive(Drop)]
 pub(crate) struct Directory {
     pub path: PathText,
     pub whole: bool,

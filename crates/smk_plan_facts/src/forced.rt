@@ -19,7 +19,7 @@ use std::alloc::Global;
 use std::collections::BTreeSet;
 
 /// What forces jobs.
-#[derive(Debug, Drop)]
+#[derive(Drop)]
 pub(crate) struct Forcing {
     force: Force,
     /// The first outputs of the jobs that ran.

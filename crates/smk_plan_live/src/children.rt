@@ -13,7 +13,7 @@ use smk_trigger::State;
 use std::alloc::Global;
 
 /// A job whose child runs, by its first output, with the state that it had when it began.
-#[derive(Debug, Drop)]
+#[derive(Drop)]
 pub(crate) struct Child {
     pub(crate) name: Text,
     pub(crate) state: State,

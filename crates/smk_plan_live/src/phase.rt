@@ -1,5 +1,5 @@
 /// How far a job has come in this run.
-#[derive(Clone, Copy, Debug, PartialEq, Eq)]
+#[derive(Clone, Copy, PartialEq, Eq)]
 pub enum Phase {
     /// It hasn't begun.
     Waiting,

@@ -24,7 +24,7 @@ use std::alloc::Global;
 use std::thread::Threads;
 
 /// The last plan of a chain, with its jobs, and the store as it was found.
-#[derive(Debug, Drop)]
+#[derive(Drop)]
 pub struct Previewed {
     pub store: Store,
     pub jobs: Jobs,

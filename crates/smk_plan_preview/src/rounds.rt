@@ -43,7 +43,7 @@ pub(crate) struct Ground<'a> {
 }
 
 /// Derived jobs with their plan.
-#[derive(Debug, Drop)]
+#[derive(Drop)]
 pub(crate) struct Round {
     pub(crate) jobs: Jobs,
     pub(crate) plan: Plan,

@@ -15,14 +15,14 @@ use smk_world::{Item, Kind, Out, OutItem};
 use std::alloc::Global;
 
 /// A directory output, and whether it is whole.
-#[derive(Debug, Drop)]
+#[derive(Drop)]
 pub(crate) struct Directory {
     pub(crate) path: PathText,
     pub(crate) whole: bool,
 }
 
 /// What is looked at of a job.
-#[derive(Debug, Drop)]
+#[derive(Drop)]
 pub(crate) struct Parts {
     pub(crate) inputs: List<PathText>,
     /// The directories that it gathers from.

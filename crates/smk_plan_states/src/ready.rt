@@ -18,7 +18,7 @@ use std::alloc::Global;
 use std::collections::{BTreeMap, BTreeSet};
 
 /// An awaited directory, and whether it is ready.
-#[derive(Debug, Drop)]
+#[derive(Drop)]
 pub(crate) struct Wait {
     pub(crate) path: PathText,
     pub(crate) ready: bool,

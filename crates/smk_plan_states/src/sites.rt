@@ -19,7 +19,7 @@ use std::alloc::Global;
 use std::collections::BTreeMap;
 
 /// The job that makes a path, none for a source; whether the path is whole; and the directory output over it.
-#[derive(Debug, Drop)]
+#[derive(Drop)]
 pub(crate) struct Site {
     pub(crate) job: Option<u32>,
     pub(crate) whole: bool,

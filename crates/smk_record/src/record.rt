@@ -6,7 +6,7 @@ use smk_base::{List, PathText, Sum};
 use smk_world::Recipe;
 
 /// What an input was as a job began.
-#[derive(Clone, Copy, Debug, PartialEq, Eq)]
+#[derive(Clone, Copy, PartialEq, Eq)]
 pub enum Stamp {
     /// A source, with its time.
     Time(u64),
@@ -44,7 +44,7 @@ pub fn agrees(recorded: &Stamp, now: &Stamp) -> bool
 }
 
 /// What stands at this name under a directory output.
-#[derive(Debug, Drop)]
+#[derive(Drop)]
 pub struct Member {
     pub folder: bool,
     pub name: PathText,
@@ -52,7 +52,7 @@ pub struct Member {
 
 /// How an output was made: by the job with this serial and recipe, from inputs with these stamps; of a directory all that is
 /// under it. It remembers the format in which it is written.
-#[derive(Debug, Drop)]
+#[derive(Drop)]
 pub struct Record {
     pub(crate) format: u8,
     pub(crate) path: PathText,

@@ -1,7 +1,7 @@
 use smk_base::OutOfMemory;
 
 /// Why a value isn't read.
-#[derive(Clone, Copy, Debug, PartialEq, Eq)]
+#[derive(Clone, Copy, PartialEq, Eq)]
 pub(crate) enum Stop {
     /// The bytes spell none.
     Unread,

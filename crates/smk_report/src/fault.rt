@@ -8,7 +8,7 @@ use smk_flaws::{Flaw, LoadFault};
 use smk_store::StoreFault;
 
 /// Why a call ended without being done.
-#[derive(Debug, Drop)]
+#[derive(Drop)]
 pub enum Fault {
     /// The workflow is wrong.
     Workflow(Flaw),

@@ -1,7 +1,7 @@
 use smk_base::PathText;
 
 /// How a job ended whose child was waited for and that was closed.
-#[derive(Debug, Drop)]
+#[derive(Drop)]
 pub enum Ending {
     /// With all its outputs good.
     Good,

@@ -2,7 +2,7 @@ use smk_base::{OutOfMemory, PathText};
 use smk_world::Failed;
 
 /// Why a job isn't begun, or isn't closed and reported.
-#[derive(Debug, Drop)]
+#[derive(Drop)]
 pub enum Stop {
     /// A record of the job would have so many bytes without its members, which is more than 1,048,576.
     TooLong(u64),

@@ -1,7 +1,7 @@
 use smk_report::Fault;
 
 /// How a run of jobs ended that came to its end, be it by a job that failed.
-#[derive(Debug, Drop)]
+#[derive(Drop)]
 pub struct Tally {
     /// How many jobs were started.
     pub started: u64,

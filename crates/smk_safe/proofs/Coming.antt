@@ -31,13 +31,13 @@ use Rattle.smk_laws_history.proofs.HistoryImages.{held_no_source}
 use Rattle.smk_laws_plan.proofs.CurrentPaths.{among_in}
 use Rattle.smk_run.specs.Stamps.{Serials}
 use Rattle.smk_run.specs.Turns.{Turn, found, AreTurns, is_begun, is_done}
-use Rattle.smk_made.specs.Leaving.{owned, AreInputsApart}
-use Rattle.smk_made.specs.Running.{IsOrderly, LeavesAlone, AreArranged, IsMade, HasMade}
+use Rattle.smk_safe.specs.Leaving.{owned, AreInputsApart}
+use Rattle.smk_safe.specs.Running.{IsOrderly, LeavesAlone, AreArranged, IsMade, HasMade}
 use Rattle.smk_run.proofs.Calls.{each_first}
-use Rattle.smk_made.proofs.Disjoint.{flipped}
-use Rattle.smk_made.proofs.Kept.{apart_differ, differ_first}
-use Rattle.smk_made.proofs.Running.{done_turns_leave, orderly_each}
-use Rattle.smk_made.proofs.Sparing.{IsOffTurn, turns_kept}
+use Rattle.smk_safe.proofs.Disjoint.{flipped}
+use Rattle.smk_safe.proofs.Kept.{apart_differ, differ_first}
+use Rattle.smk_safe.proofs.Running.{done_turns_leave, orderly_each}
+use Rattle.smk_safe.proofs.Sparing.{IsOffTurn, turns_kept}
 use Rattle.smk_safe.specs.Turning.{IsAtRest, opened, MayComeNext, AllAreFound}
 use Rattle.smk_safe.specs.Ready.{IsThere, FromSource, FromTurn, FromRest, stamp_of, IsRecordedSo, draws, greatest_after, HasItsSerial, IsReady}
 use Rattle.smk_safe.proofs.Images.{kept_at as kept_same, marked_at, node_at, core_same, whole_at, holder_same, holder_over, source_of_both, same_back, same_then, sources_now}

@@ -21,10 +21,10 @@ use Rattle.smk_laws_protocol.proofs.ProtocolHolds.{protocol_law}
 use Rattle.smk_laws_job.specs.Laws.{IsRecordable}
 use Rattle.smk_run.specs.Stamps.{Serials}
 use Rattle.smk_run.specs.Turns.{Course, Unbegun, Unstarted, Unclosed, Closed, Turn, AreTurns, is_begun, is_closed, is_done}
-use Rattle.smk_made.specs.Leaving.{owned, AreInputsApart}
-use Rattle.smk_made.specs.Running.{IsOrderly, LeavesAlone, AreArranged}
+use Rattle.smk_safe.specs.Leaving.{owned, AreInputsApart}
+use Rattle.smk_safe.specs.Running.{IsOrderly, LeavesAlone, AreArranged}
 use Rattle.smk_run.proofs.Calls.{each_append, each_first}
-use Rattle.smk_made.proofs.Done.{follows_split}
+use Rattle.smk_safe.proofs.Done.{follows_split}
 use Rattle.smk_safe.specs.Turning.{IsAtRest, opened, AllAreFound}
 use Rattle.smk_safe.specs.Ready.{IsReady, draws, greatest_after, AreReadyFrom, AreDoneButLast}
 use Rattle.smk_safe.specs.Safe.{ReadyTurnsAreRun}

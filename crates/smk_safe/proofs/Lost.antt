@@ -1,6 +1,6 @@
 -- A job that failed leaves nothing of its outputs, their records and marks.
 use Rattle.std.proofs.Common.{◌≡◌, inl, inr, ℕ, true, false, List, [], ◌∷◌, ◌++◌, map, refl, ap, sym, subst, ◌∙◌, None, Ok, append_assoc, IsTrue, true≢false}
-use Rattle.smk_made.proofs.Running.{record_marks}
+use Rattle.smk_safe.proofs.Running.{record_marks}
 use Rattle.smk_base.specs.Path.{is_path, is_at_or_under}
 use Rattle.smk_base.specs.Place.{record_place, mark_place}
 use Rattle.smk_base.proofs.Under.{or_cases, or_first, or_second, at_itself}
@@ -32,14 +32,14 @@ use Rattle.smk_run.specs.Digesting.{HasDigested}
 use Rattle.smk_run.specs.Stamps.{Serials}
 use Rattle.smk_run.specs.Closings.{wait_event, HasWaited, HasSettled}
 use Rattle.smk_run.specs.Turns.{Course, Unbegun, Unstarted, Unclosed, Closed, Turn, found, as_underway, HasGone, HasBegunAnd, HasStampedAnd, IsTurnBy, is_closed, is_done}
-use Rattle.smk_made.specs.Leaving.{MayCome}
+use Rattle.smk_safe.specs.Leaving.{MayCome}
 use Rattle.smk_run.proofs.Calls.{EachCall}
 use Rattle.smk_run.proofs.Calls.{each_first, OfLooks, digested_each, wrong_each}
-use Rattle.smk_made.proofs.Done.{follows_split, idle_known}
-use Rattle.smk_made.proofs.Kept.{IsAllKnown, all_known, within_outside, keeps_off, still_none, all_removed, unmark_files}
-use Rattle.smk_made.proofs.Sparing.{else_apart, marks_else, spared_unmark}
+use Rattle.smk_safe.proofs.Done.{follows_split, idle_known}
+use Rattle.smk_safe.proofs.Kept.{IsAllKnown, all_known, within_outside, keeps_off, still_none, all_removed, unmark_files}
+use Rattle.smk_safe.proofs.Sparing.{else_apart, marks_else, spared_unmark}
 use Rattle.smk_run.proofs.Telling.{files_children, started_after}
-use Rattle.smk_made.proofs.Starting.{has_ended}
+use Rattle.smk_safe.proofs.Starting.{has_ended}
 use Rattle.smk_safe.specs.Lost.{IsLost, FailedTurnLeaves}
 
 -- ## What is removed

@@ -2,7 +2,7 @@
 use Rattle.std.proofs.Common.{◌≡◌, ◌⊎◌, inl, inr, Bool, true, false, List, [], ◌∷◌, map, refl, ap, sym, ◌∙◌, bytes_eq, true≢false}
 use Rattle.std.specs.List.{list_any}
 use Rattle.std.proofs.lemmas.Bool.{or_parts}
-use Rattle.smk_made.proofs.Running.{users_apart, record_marks, record_notes, mark_records, mark_notes}
+use Rattle.smk_safe.proofs.Running.{users_apart, record_marks, record_notes, mark_records, mark_notes}
 use Rattle.smk_laws_job.proofs.Abandoning.{in_first}
 use Rattle.smk_base.specs.Path.{own_folder, is_at_or_under, overlaps}
 use Rattle.smk_base.specs.Place.{record_place, mark_place, note_place}
@@ -13,9 +13,9 @@ use Rattle.smk_world.specs.World.{out_paths, is_named}
 use Rattle.smk_world.specs.Trees.{Path, IsIn, Each, among}
 use Rattle.smk_run.specs.Turns.{Turn}
 use Rattle.smk_laws_plan.proofs.CurrentPaths.{among_in}
-use Rattle.smk_made.specs.Leaving.{owned}
-use Rattle.smk_made.specs.Running.{IsOrderly}
-use Rattle.smk_made.proofs.Sparing.{else_apart, IsOffTurn, off_overlap}
+use Rattle.smk_safe.specs.Leaving.{owned}
+use Rattle.smk_safe.specs.Running.{IsOrderly}
+use Rattle.smk_safe.proofs.Sparing.{else_apart, IsOffTurn, off_overlap}
 use Rattle.smk_laws_protocol.proofs.Basics.{none_of}
 
 -- the turn makes the path

@@ -65,9 +65,9 @@ use Rattle.smk_laws_plan.proofs.PlanOrder.{InOrder, Served, some_node}
 use Rattle.smk_laws_history.proofs.Valid.{records_valid}
 use Rattle.smk_run.specs.Stamps.{Serials}
 use Rattle.smk_run.specs.Turns.{Turn}
-use Rattle.smk_made.specs.Leaving.{owned, AreInputsApart}
-use Rattle.smk_made.specs.Running.{AreArranged, IsOrderly, LeavesAlone}
-use Rattle.smk_made.proofs.Disjoint.{flipped, places, spots_places}
+use Rattle.smk_safe.specs.Leaving.{owned, AreInputsApart}
+use Rattle.smk_safe.specs.Running.{AreArranged, IsOrderly, LeavesAlone}
+use Rattle.smk_safe.proofs.Disjoint.{flipped, places, spots_places}
 use Rattle.smk_safe.specs.Ready.{IsThere, FromSource, FromTurn, FromRest, stamp_of, IsRecordedSo, draws, greatest_after, HasItsSerial, IsReady, AreReadyFrom}
 use Rattle.smk_safe.specs.Planned.{KeepsSerial, AreTurnsOf, TellsSerials, IsPlain, IsFit, PlannedTurnsAreReady}
 use Rattle.smk_safe.proofs.Images.{holder_own}

@@ -37,9 +37,9 @@ use Rattle.smk_laws_plan.proofs.CurrentLists.{map_in, in_map}
 use Rattle.smk_laws_plan.proofs.CurrentPaths.{among_in}
 use Rattle.smk_laws_history.proofs.HistoryImages.{held_no_source}
 use Rattle.smk_run.specs.Turns.{Turn, found}
-use Rattle.smk_made.specs.Leaving.{IsRecorded}
-use Rattle.smk_made.specs.Running.{IsMade}
-use Rattle.smk_made.proofs.Kept.{AreDifferent}
+use Rattle.smk_safe.specs.Leaving.{IsRecorded}
+use Rattle.smk_safe.specs.Running.{IsMade}
+use Rattle.smk_safe.proofs.Kept.{AreDifferent}
 use Rattle.smk_safe.specs.Turning.{opened}
 use Rattle.smk_safe.proofs.Images.{holder_own, members_agree}
 

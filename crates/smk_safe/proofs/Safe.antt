@@ -18,7 +18,7 @@ use Rattle.smk_laws_protocol.specs.Protocol.{RunState, Runs, Done, Next, Steady,
 use Rattle.smk_laws_protocol.specs.Midway.{IsTop, at_entry}
 use Rattle.smk_run.specs.Stamps.{Serials}
 use Rattle.smk_run.specs.Turns.{Turn, AreTurns, is_closed}
-use Rattle.smk_made.proofs.Done.{follows_split}
+use Rattle.smk_safe.proofs.Done.{follows_split}
 use Rattle.smk_safe.specs.Turning.{IsAtRest, AllAreFound}
 use Rattle.smk_safe.specs.Ready.{AreReady, AreDoneButLast}
 use Rattle.smk_safe.specs.Safe.{IsRunOf, IsSafeRun, RunIsSafe}

@@ -27,7 +27,7 @@ use Rattle.smk_run.specs.Digesting.{IsDigested, AreDigested, with_sum}
 use Rattle.smk_run.specs.Stamps.{Serials, IsStamped, AreStamped}
 use Rattle.smk_run.specs.Turns.{Course, Unbegun, Unstarted, Unclosed, Closed, Turn, found, HasGone, HasStampedAnd, IsTurnBy, is_begun}
 use Rattle.smk_run.proofs.Calls.{stamped_each}
-use Rattle.smk_made.proofs.Done.{follows_split}
+use Rattle.smk_safe.proofs.Done.{follows_split}
 use Rattle.smk_safe.proofs.Joining.{IsLooking, lookings, looks_by, looks_same}
 
 -- the stamp of a product is its serial; that of a source is the stamp of the file that stands in this world

@@ -47,9 +47,9 @@ use Rattle.smk_run.specs.Stamps.{Serials, look_at, looks}
 use Rattle.smk_run.specs.Closings.{wait_event, HasSettled}
 use Rattle.smk_run.specs.Turns.{Course, Unbegun, Unstarted, Unclosed, Closed, Turn, found, as_underway, HasGoneOn, HasGone, HasStampedAnd, IsTurnBy, is_begun, is_closed}
 use Rattle.smk_run.proofs.Calls.{each_append, digested_each, stamped_each}
-use Rattle.smk_made.proofs.Done.{follows_split}
+use Rattle.smk_safe.proofs.Done.{follows_split}
 use Rattle.smk_run.proofs.Telling.{started_after}
-use Rattle.smk_made.proofs.Starting.{has_ended}
+use Rattle.smk_safe.proofs.Starting.{has_ended}
 use Rattle.smk_safe.specs.Turning.{IsAtRest, opened, MayComeNext, AllAreFound, has_failure, TurnIsRun, ComeInTurn, TurnsAreRun}
 use Rattle.smk_safe.proofs.Joining.{runs_then, throughout_later, throughout_first, throughout_on, IsLooking, lookings, AreLooks, looks_by, look_all, look_part, read_part, looks_same, now_same}
 use Rattle.smk_safe.proofs.Quiet.{IsQuiet, quiet_then, done_quiet, digested_quiet, stamped_quiet, seen_quiet, wrong_quiet, looked_quiet}

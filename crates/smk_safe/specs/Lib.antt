@@ -1,3 +1,8 @@
+pub mod Exit
+pub mod Dues
+pub mod Leaving
+pub mod Running
+pub mod Clean
 pub mod Turning
 pub mod Ready
 pub mod Safe

@@ -8,7 +8,7 @@ use Rattle.smk_world.specs.Runs.{Follows}
 use Rattle.smk_world.specs.Trees.{Path, Act, Each}
 use Rattle.smk_run.specs.Stamps.{Serials}
 use Rattle.smk_run.specs.Turns.{Turn, IsTurn, is_closed, is_done}
-use Rattle.smk_made.specs.Leaving.{MayCome}
+use Rattle.smk_safe.specs.Leaving.{MayCome}
 
 -- Nothing is at the output or under it, and neither its record nor its mark stands; and a crash brings nothing of it back.
 pub record IsLost (v : World) (p : Path) : Type 0 where

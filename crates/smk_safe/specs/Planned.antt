@@ -19,7 +19,7 @@ use Rattle.smk_plan.specs.States.{Plan, IsPlan, nothing_done, staged, maker_of}
 use Rattle.smk_laws_job.specs.Laws.{IsRecordable}
 use Rattle.smk_run.specs.Stamps.{Serials}
 use Rattle.smk_run.specs.Turns.{Turn, is_begun}
-use Rattle.smk_made.specs.Leaving.{owned}
+use Rattle.smk_safe.specs.Leaving.{owned}
 use Rattle.smk_safe.specs.Turning.{opened}
 use Rattle.smk_safe.specs.Ready.{AreReady}
 

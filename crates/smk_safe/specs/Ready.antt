@@ -15,8 +15,8 @@ use Rattle.smk_laws_protocol.specs.Protocol.{IsAgain, IsProductAt}
 use Rattle.smk_run.specs.Stamps.{Serials}
 use Rattle.smk_run.specs.Turns.{Turn, is_begun, is_done}
 use Rattle.smk_laws_job.specs.Laws.{IsRecordable}
-use Rattle.smk_made.specs.Leaving.{owned}
-use Rattle.smk_made.specs.Running.{AreArranged}
+use Rattle.smk_safe.specs.Leaving.{owned}
+use Rattle.smk_safe.specs.Running.{AreArranged}
 use Rattle.smk_safe.specs.Turning.{opened}
 
 -- ## Inputs

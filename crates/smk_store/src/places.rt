@@ -7,7 +7,7 @@ use std::alloc::Global;
 
 /// The places of a job's outputs, of their marks and records, and of the notes of its logs, in order; and the lists of them that are
 /// settled together.
-#[derive(Debug, Drop)]
+#[derive(Drop)]
 pub struct JobPlaces {
     pub outputs: List<Place>,
     pub marks: List<Place>,

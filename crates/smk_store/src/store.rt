@@ -10,7 +10,7 @@ use std::cmp::Ordering;
 use std::marker::Model;
 
 /// The record of a path, where a file stands in its place.
-#[derive(Debug, Drop)]
+#[derive(Drop)]
 pub enum Kept {
     Absent,
     Unreadable,
@@ -18,7 +18,7 @@ pub enum Kept {
 }
 
 /// What is known of a path.
-#[derive(Debug, Drop)]
+#[derive(Drop)]
 pub struct Entry {
     pub kept: Kept,
     pub marked: bool,
@@ -26,7 +26,7 @@ pub struct Entry {
 }
 
 /// The paths of which something is known, in byte order, with what it is. Contracts see each path with its entry.
-#[derive(Debug, Drop)]
+#[derive(Drop)]
 pub struct Store {
     paths: List<PathText>,
     entries: List<Entry>,

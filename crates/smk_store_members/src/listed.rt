@@ -2,7 +2,7 @@ use smk_base::List;
 use smk_record::Member;
 
 /// What a listing of a folder with all that is under it comes to.
-#[derive(Debug, Drop)]
+#[derive(Drop)]
 pub enum Listed {
     /// All that is under it, in byte order.
     Members(List<Member>),

@@ -5,7 +5,7 @@ use smk_world::Recipe;
 
 /// What the reasons of a job are judged by: for each of its outputs what is kept of it and whether it is marked; for each of its
 /// inputs the stamp now; and whether it is forced.
-#[derive(Debug, Drop)]
+#[derive(Drop)]
 pub struct JobFacts {
     pub recipe: Recipe,
     pub kept: List<Kept>,

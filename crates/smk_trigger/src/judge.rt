@@ -17,7 +17,7 @@ pub trait Judge: Sync {
 }
 
 /// The judge that looks at the facts of one job.
-#[derive(Clone, Copy, Debug)]
+#[derive(Clone, Copy)]
 pub struct Plain;
 
 impl Judge for Plain {

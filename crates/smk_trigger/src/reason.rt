@@ -1,7 +1,7 @@
 use smk_base::{List, PathText};
 
 /// Why a job has to run.
-#[derive(Debug, Drop)]
+#[derive(Drop)]
 pub enum Reason {
     /// An output has no record.
     New,
@@ -23,7 +23,7 @@ pub enum Reason {
 }
 
 /// What a job of a plan is.
-#[derive(Debug, Drop)]
+#[derive(Drop)]
 pub enum State {
     /// Its inputs aren't known yet.
     Open,

@@ -17,7 +17,7 @@ use std::alloc::Global;
 use std::collections::BTreeMap;
 
 /// The stamps that are recorded of an input.
-#[derive(Debug, Drop)]
+#[derive(Drop)]
 pub(crate) enum Recorded {
     /// This one alone.
     One(Stamp),

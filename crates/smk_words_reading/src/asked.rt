@@ -4,7 +4,7 @@ use smk_base::{Amount, List, OutOfMemory, Pair, PathText, Text};
 use smk_pick::Force;
 
 /// The words of a run or of a listing.
-#[derive(Debug, Drop)]
+#[derive(Drop)]
 pub struct RunWords {
     /// What is to be made: names of rules and paths, in the order of the command line.
     pub targets: List<Text>,
@@ -27,7 +27,7 @@ pub struct RunWords {
 }
 
 /// What is asked of a call.
-#[derive(Debug, Drop)]
+#[derive(Drop)]
 pub enum Asked {
     /// A run.
     Run(RunWords),
@@ -42,7 +42,7 @@ pub enum Asked {
 }
 
 /// Why words ask nothing.
-#[derive(Clone, Copy, Debug, PartialEq, Eq)]
+#[derive(Clone, Copy, PartialEq, Eq)]
 pub enum WordsFault {
     /// The words have no form that is read.
     BadWords,

@@ -15,7 +15,7 @@ use smk_pick::Force;
 use std::alloc::Global;
 
 /// What parts mean.
-#[derive(Debug, Drop)]
+#[derive(Drop)]
 pub(crate) enum Meaning {
     /// They ask this.
     Ask(Asked),

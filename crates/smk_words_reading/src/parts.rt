@@ -8,7 +8,7 @@ ghost use Rattle.smk_words_reading.specs.Asks as spec;
 use smk_base::Text;
 
 /// An option without a value.
-#[derive(Clone, Copy, Debug, PartialEq, Eq)]
+#[derive(Clone, Copy, PartialEq, Eq)]
 pub enum Flag {
     /// `--dry-run`, `-n`: only what would be done is told.
     DryRun,
@@ -27,7 +27,7 @@ pub enum Flag {
 }
 
 /// An option with a value.
-#[derive(Clone, Copy, Debug, PartialEq, Eq)]
+#[derive(Clone, Copy, PartialEq, Eq)]
 pub enum Setting {
     /// `--cores`, `-c`: how many cores the jobs may use together.
     Cores,
@@ -44,7 +44,7 @@ pub enum Setting {
 }
 
 /// What words spell: a target, a flag, or an option with its value.
-#[derive(Debug, Drop)]
+#[derive(Drop)]
 pub enum Part {
     Target(Text),
     Flagged(Flag),

@@ -11,7 +11,7 @@ use smk_base::{List, OutOfMemory, Text};
 use std::alloc::Global;
 
 /// What is expected of the next word.
-#[derive(Clone, Copy, Debug, PartialEq, Eq)]
+#[derive(Clone, Copy, PartialEq, Eq)]
 pub(crate) enum Expected {
     /// A target or options.
     Word,

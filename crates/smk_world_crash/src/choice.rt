@@ -1,7 +1,7 @@
 //! Which of the images that a crash may leave is meant.
 
 /// Which of the images that a crash may leave is meant. Each place is looked at by itself.
-#[derive(Clone, Copy, Debug, PartialEq, Eq)]
+#[derive(Clone, Copy, PartialEq, Eq)]
 pub enum Choice {
     /// The least: nothing stands where nothing may be left, so that only what is firm stays.
     Least,

@@ -7,7 +7,7 @@ use smk_world::Values;
 use std::alloc::Global;
 
 /// What a child runs.
-#[derive(Clone, Copy, Debug, PartialEq, Eq)]
+#[derive(Clone, Copy, PartialEq, Eq)]
 pub enum Command {
     /// The inputs joined into the first output.
     Cat,

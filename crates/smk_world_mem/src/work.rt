@@ -39,7 +39,7 @@ pub struct MemWork {
 }
 
 /// How the calls of a workspace go.
-#[derive(Debug, Drop)]
+#[derive(Drop)]
 pub struct Setup {
     /// The numbers of the calls that fail.
     pub failing: List<u64>,

@@ -3,7 +3,7 @@ use smk_base::Place;
 use smk_world::{Event, Node};
 
 /// What changed the world.
-#[derive(Debug, Drop)]
+#[derive(Drop)]
 pub enum Step {
     /// A call.
     Happened(Event),

@@ -3,7 +3,7 @@
 use std::io::Error;
 
 /// What a call does.
-#[derive(Clone, Copy, Debug, PartialEq, Eq)]
+#[derive(Clone, Copy, PartialEq, Eq)]
 pub enum CallKind {
     /// `Files::stat`
     Look,
@@ -52,7 +52,7 @@ impl CallKind {
 }
 
 /// A call that failed.
-#[derive(Debug, Drop)]
+#[derive(Drop)]
 pub struct Failure {
     pub call: CallKind,
     /// Where: the path of the call, or the one at which it failed, where that is another. It is empty for a wait, and where

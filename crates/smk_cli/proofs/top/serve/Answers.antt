@@ -6,7 +6,7 @@ use Rattle.smk_cli_calls.proofs.Ended.{early}
 use Rattle.smk_cli_calls.specs.Words.{is_to_make}
 use Rattle.smk_cli_calls.specs.Whole.{Serves}
 use Rattle.smk_cli_calls.specs.Keys.{Keeps, NoMemory}
-use Rattle.smk_cli.proofs.Serving.{stopped}
+use Rattle.smk_cli.proofs.ServingOf.{stopped}
 use Rattle.smk_cli.proofs.Words.{built_unrefused, early_calm, early_quiet, early_refusal, early_want}
 use Rattle.smk_cli.proofs.top.serve.Goals as goal
 

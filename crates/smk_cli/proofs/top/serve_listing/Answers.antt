@@ -4,7 +4,7 @@ use Rattle.smk_cli_calls.proofs.Ended.{early, later_on}
 use Rattle.smk_cli_calls.proofs.Went.{refused_or_stopped_listing, listed_wider}
 use Rattle.smk_plan_preview.proofs.LookedAt.{kept}
 use Rattle.smk_cli_calls.specs.Whole.{IsRefusal, IsToServe, OfWorkflow}
-use Rattle.smk_cli.proofs.Serving.{plan_refused, plan_served}
+use Rattle.smk_cli.proofs.ServingOf.{plan_refused, plan_served}
 use Rattle.smk_cli.proofs.top.serve_listing.Goals as goal
 
 pub returns-in-Err-clause-ended : goal.returns-in-Err-clause-ended

@@ -1,6 +1,6 @@
 use Rattle.smk_cli_calls.proofs.Ended.{early, later_on}
 use Rattle.smk_cli_calls.proofs.Went.{only_looked}
-use Rattle.smk_cli.proofs.Serving.{run_of, unasked_run}
+use Rattle.smk_cli.proofs.ServingOf.{run_of, unasked_run}
 use Rattle.smk_cli.proofs.top.serve_run.Goals as goal
 
 pub returns-in-Err-clause-ended : goal.returns-in-Err-clause-ended

@@ -2,7 +2,7 @@ use Rattle.std.proofs.Common.{Err, None, subst, sym, ◌≡◌, ◌∙◌}
 use Rattle.smk_world.specs.Devices.{HasActed}
 use Rattle.smk_report.specs.declared.fault.Fault.{Fault}
 use Rattle.smk_drive_course.specs.Driven.{device_failed}
-use Rattle.smk_laws_rest.specs.Resting.{refused_command}
+use Rattle.smk_laws_turns.specs.Resting.{refused_command}
 use Rattle.smk_laws_closes.specs.Tending.{HasTendedOf}
 use Rattle.smk_laws_closes.proofs.Knowing.{learnt_then, unguarded, was_halted}
 use Rattle.smk_drive_close.proofs.Halting.{always_so, is_halted}

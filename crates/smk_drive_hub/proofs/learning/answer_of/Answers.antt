@@ -3,7 +3,7 @@ use Rattle.std.specs.Prelude.{IfErr}
 use Rattle.smk_plan.specs.declared.fault.PlanFault.{PlanFault}
 use Rattle.smk_plan.specs.declared.fault.PlanFault.TheVariants as refused
 use Rattle.smk_plan_live.specs.Lives.{IsRefusedNow}
-use Rattle.smk_laws_rest.proofs.Answering.{answer_refused}
+use Rattle.smk_laws_turns.proofs.Answering.{answer_refused}
 use Rattle.smk_drive_hub.proofs.Checked.{checked_quiet}
 use Rattle.smk_drive_hub.proofs.learning.answer_of.Goals as goal
 

@@ -1,8 +1,8 @@
 use Rattle.std.proofs.Common.{◌∙◌, ap, length, map, sym, zip}
 use Rattle.smk_chain.specs.declared.jobs.Jobs.{Jobs}
 use Rattle.smk_plan.specs.declared.plan.Plan.{Plan}
-use Rattle.smk_laws_rest.specs.Resting.{looked_as}
-use Rattle.smk_laws_rest.proofs.Answering.{each_looked}
+use Rattle.smk_laws_turns.specs.Resting.{looked_as}
+use Rattle.smk_laws_turns.proofs.Answering.{each_looked}
 use Rattle.smk_drive_hub.proofs.learning.check_jobs.Goals as goal
 
 pub check_commands-requires : goal.check_commands-requires

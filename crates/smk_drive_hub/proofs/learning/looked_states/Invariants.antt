@@ -1,5 +1,5 @@
 use Rattle.std.proofs.Common.{◌≡◌, ◌++◌, drop, map, zip}
-use Rattle.smk_laws_rest.specs.Resting.{looked_as}
+use Rattle.smk_laws_turns.specs.Resting.{looked_as}
 use Rattle.smk_drive_hub.proofs.learning.looked_states.Given as goal
 
 abbrev pub invariant-loop-number : goal.invariant-loop-number

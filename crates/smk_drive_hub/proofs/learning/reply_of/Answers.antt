@@ -3,8 +3,8 @@ use Rattle.std.specs.Prelude.{IfErr, OnOk}
 use Rattle.smk_plan.specs.declared.fault.PlanFault.{PlanFault}
 use Rattle.smk_plan.specs.declared.fault.PlanFault.TheVariants as refused
 use Rattle.smk_plan_live.specs.Lives.{IsRefusedNow}
-use Rattle.smk_laws_rest.specs.Resting.{IsTold}
-use Rattle.smk_laws_rest.proofs.Answering.{answer_refused}
+use Rattle.smk_laws_turns.specs.Resting.{IsTold}
+use Rattle.smk_laws_turns.proofs.Answering.{answer_refused}
 use Rattle.smk_drive_hub.proofs.Checked.{reply_checked}
 use Rattle.smk_drive_hub.proofs.learning.reply_of.Goals as goal
 

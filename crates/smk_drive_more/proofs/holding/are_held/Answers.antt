@@ -2,7 +2,7 @@ use Rattle.std.proofs.Common.{ap, zip, ◌∙◌}
 use Rattle.std.specs.List.{list_all}
 use Rattle.smk_chain.specs.declared.jobs.Jobs.{Jobs}
 use Rattle.smk_plan_live.specs.Now.{known_now}
-use Rattle.smk_laws_rest.specs.Growing.{is_held}
+use Rattle.smk_laws_turns.specs.Growing.{is_held}
 use Rattle.smk_drive_more.proofs.holding.are_held.Goals as goal
 
 pub returns : goal.returns

@@ -1,6 +1,6 @@
 use Rattle.std.proofs.Common.{◌≡◌, drop}
 use Rattle.std.specs.List.{list_all}
-use Rattle.smk_laws_rest.specs.Growing.{are_known_in}
+use Rattle.smk_laws_turns.specs.Growing.{are_known_in}
 use Rattle.smk_drive_more.proofs.holding.are_items_known.Given as goal
 
 abbrev pub invariant-loop-item : goal.invariant-loop-item

@@ -1,6 +1,6 @@
 use Rattle.std.proofs.Common.{◌≡◌, drop, zip}
 use Rattle.std.specs.List.{list_all}
-use Rattle.smk_laws_rest.specs.Growing.{is_held}
+use Rattle.smk_laws_turns.specs.Growing.{is_held}
 use Rattle.smk_drive_more.proofs.holding.are_jobs_held.Given as goal
 
 abbrev pub invariant-loop-number : goal.invariant-loop-number

@@ -1,6 +1,6 @@
 use Rattle.std.proofs.Common.{refl, sym, ◌∙◌}
 use Rattle.smk_drive_hub.specs.Keeping.{parts_of}
-use Rattle.smk_laws_gone.proofs.Concluding.{faulted_so}
+use Rattle.smk_laws_begins.proofs.Concluding.{faulted_so}
 use Rattle.smk_drive_run.proofs.driving.conclude.Goals as goal
 
 pub returns-in-Some : goal.returns-in-Some

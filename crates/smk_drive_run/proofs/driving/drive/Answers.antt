@@ -1,10 +1,10 @@
 use Rattle.smk_drive_hub.specs.Keeping.{parts_of}
-use Rattle.smk_laws_gone.proofs.Begun.{opened_is_at}
-use Rattle.smk_laws_gone.proofs.Ended.{ends_well}
-use Rattle.smk_laws_gone.proofs.Entering.{start_is_within}
-use Rattle.smk_laws_gone.proofs.Standing.{ready_at_start}
-use Rattle.smk_laws_gone.proofs.Unopened.{unopened_run}
-use Rattle.smk_laws_gone.proofs.Whole.{whole_run}
+use Rattle.smk_laws_begins.proofs.Begun.{opened_is_at}
+use Rattle.smk_laws_begins.proofs.Ended.{ends_well}
+use Rattle.smk_laws_begins.proofs.Entering.{start_is_within}
+use Rattle.smk_laws_begins.proofs.Standing.{ready_at_start}
+use Rattle.smk_laws_begins.proofs.Unopened.{unopened_run}
+use Rattle.smk_laws_begins.proofs.Whole.{whole_run}
 use Rattle.smk_drive_run.proofs.driving.drive.Goals as goal
 
 pub run-requires-clause-ready : goal.run-requires-clause-ready

@@ -1,5 +1,5 @@
 use Rattle.smk_drive_hub.specs.Keeping.{parts_of}
-use Rattle.smk_laws_gone.proofs.Entering.{entered, unentered, unopened}
+use Rattle.smk_laws_begins.proofs.Entering.{entered, unentered, unopened}
 use Rattle.smk_drive_run.proofs.entering.enter.Goals as goal
 
 pub returns-in-Ok-start_of : goal.returns-in-Ok-start_of

@@ -1,6 +1,6 @@
 use Rattle.std.proofs.Common.{◌≡◌, drop}
 use Rattle.std.specs.List.{list_all}
-use Rattle.smk_laws_gone.specs.Sources.{is_made_or_seen}
+use Rattle.smk_laws_begins.specs.Sources.{is_made_or_seen}
 use Rattle.smk_drive_run.proofs.sources.are_made_or_seen.Given as goal
 
 abbrev pub invariant-loop-maker : goal.invariant-loop-maker

@@ -1,4 +1,0 @@
-pub mod Clearing
-pub mod SideRow
-pub mod WrongSteps
-pub mod WrongOpening

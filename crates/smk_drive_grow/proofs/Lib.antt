@@ -1,5 +1,0 @@
-mod Moved
-mod Faults
-mod Taken
-mod Onward
-mod Grown

@@ -1,6 +1,0 @@
-pub mod Joining
-pub mod Calls
-pub mod Leading
-pub mod Turned
-pub mod Turning
-pub mod Answering

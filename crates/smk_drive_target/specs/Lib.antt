@@ -1,5 +1,0 @@
-pub mod Moments
-pub mod Lawful
-pub mod Keeping
-pub mod Refusals
-pub mod Reports

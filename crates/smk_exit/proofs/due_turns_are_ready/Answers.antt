@@ -1,5 +1,0 @@
-use Rattle.smk_exit.proofs.Dues.{due_run_is_safe, due_turns_are_ready}
-use Rattle.smk_exit.proofs.due_turns_are_ready.Goals as goal
-
-pub returns : goal.returns
-returns c = record { ready = due_turns_are_ready; safe = due_run_is_safe }

@@ -1,9 +1,0 @@
-pub mod Carrying
-pub mod Agreeing
-pub mod PlansAlike
-pub mod Progressing
-pub mod InForce
-pub mod Places
-pub mod Deriving
-pub mod Leaving
-pub mod Off

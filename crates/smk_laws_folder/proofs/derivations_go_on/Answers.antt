@@ -1,5 +1,0 @@
-use Rattle.smk_laws_folder.proofs.Deriving.{derivation_goes_on}
-use Rattle.smk_laws_folder.proofs.derivations_go_on.Goals as goal
-
-pub returns : goal.returns
-returns c = derivation_goes_on

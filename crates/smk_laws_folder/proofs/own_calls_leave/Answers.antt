@@ -1,5 +1,0 @@
-use Rattle.smk_laws_folder.proofs.Leaving.{own_calls_leave}
-use Rattle.smk_laws_folder.proofs.own_calls_leave.Goals as goal
-
-pub returns : goal.returns
-returns c = own_calls_leave

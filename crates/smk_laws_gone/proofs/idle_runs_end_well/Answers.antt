@@ -1,5 +1,0 @@
-use Rattle.smk_laws_gone.proofs.Ended.{ends_well}
-use Rattle.smk_laws_gone.proofs.idle_runs_end_well.Goals as goal
-
-pub returns : goal.returns
-returns c = ends_well

@@ -1,5 +1,0 @@
-use Rattle.smk_laws_gone.proofs.Begun.{opened_is_at}
-use Rattle.smk_laws_gone.proofs.opened_runs_begin.Goals as goal
-
-pub returns : goal.returns
-returns c = opened_is_at

@@ -1,5 +1,0 @@
-use Rattle.smk_laws_gone.proofs.Sources.{seen_are_sources}
-use Rattle.smk_laws_gone.proofs.sources_are_seen.Goals as goal
-
-pub returns : goal.returns
-returns c = seen_are_sources

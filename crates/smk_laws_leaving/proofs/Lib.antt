@@ -1,6 +1,0 @@
-pub mod Fewer
-pub mod Clear
-pub mod Trimmed
-pub mod Chained
-pub mod Resting
-pub mod Leaving

@@ -1,5 +1,0 @@
-use Rattle.smk_laws_leaving.proofs.Leaving.{done_stays_done}
-use Rattle.smk_laws_leaving.proofs.done_stays_done.Goals as goal
-
-pub returns : goal.returns
-returns c = done_stays_done

@@ -1,3 +1,0 @@
-pub mod Fewer
-pub mod Made
-pub mod Meant

@@ -1,3 +1,0 @@
-pub mod Heeding
-pub mod Moves
-pub mod Parts

@@ -1,2 +1,0 @@
-pub mod Heeding
-pub mod Parts

@@ -1,4 +1,0 @@
-pub mod Filters
-pub mod Times
-pub mod Turns
-pub mod Telling

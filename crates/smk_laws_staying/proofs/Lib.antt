@@ -1,4 +1,0 @@
-pub mod Listed
-pub mod Gathered
-pub mod StandsOn
-pub mod Planned

@@ -1,5 +1,0 @@
-use Rattle.smk_laws_staying.proofs.Listed.{derivation_stays, listed_jobs_stay}
-use Rattle.smk_laws_staying.proofs.derivations_stay.Goals as goal
-
-pub returns : goal.returns
-returns c = record { same = derivation_stays; listed = listed_jobs_stay }

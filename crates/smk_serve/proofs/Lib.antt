@@ -1,4 +1,0 @@
-pub mod PreviewKinds
-pub mod Making
-pub mod ListingKinds
-pub mod Texts

@@ -1,7 +1,0 @@
-use Rattle.std.proofs.Common.{◌≡◌, drop}
-use Rattle.smk_flow.specs.Numbers.{parts_of}
-use Rattle.smk_cli_calls.specs.OneByOne.{has_marks}
-use Rattle.smk_serve.proofs.marks.some_has_marks.Given as goal
-
-abbrev pub invariant-loop-rule : goal.invariant-loop-rule
-invariant-loop-rule l = has_marks (parts_of l.rules) ≡ has_marks (parts_of (drop l.rule-index l.rules))

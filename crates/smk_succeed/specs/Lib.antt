@@ -1,4 +1,0 @@
-pub mod Succeeding
-pub mod Feeding
-pub mod Planning
-pub mod Completing

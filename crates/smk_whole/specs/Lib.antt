@@ -1,4 +1,0 @@
-pub mod Complete
-pub mod Plain
-pub mod Calls
-pub mod Temps
