@@ -1,12 +1,19 @@
-//! Runs the whole call over workspaces in memory, and prints how each ends: its status, what is left of the job, its report, and the line of its fault.
+//! Runs the whole call over workspaces in memory, and prints how each ends: its status, what is left of the job, its report, and the line of its fault. Then it stops
+//! runs after each of their calls, lets a crash follow and goes on, and lets each call fail, and prints how many of these ended wrong.
 #![tactic(auto)]
 
+mod again;
 mod commands;
 mod failing;
+mod failures;
 mod later;
 mod left;
+mod row;
 mod runs;
+mod stopping;
+mod stops;
 mod trial;
+mod workspace;
 
 use std::alloc::{AllocError, Global};
 use std::io;
@@ -19,6 +26,7 @@ fn rows<Rt: Threads + Sync>(rt: &Rt, alloc: Global) -> Result<String, AllocError
     failing::push_rows(rt, alloc, &mut text)?;
     later::push_rows(rt, alloc, &mut text)?;
     commands::push_rows(rt, alloc, &mut text)?;
+    stopping::push_rows(rt, alloc, &mut text)?;
     Ok(text)
 }
 

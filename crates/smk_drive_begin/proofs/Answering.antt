@@ -1,21 +1,16 @@
 -- What the functions of a sweep answer.
-use Rattle.std.proofs.Common.{◌≡◌, inl, inr, ℕ, ◌≤◌, ◌+◌, arith, Bool, true, false, List, [], ◌∷◌, ◌++◌, length, map, refl, sym, ap, subst, ◌∙◌, Option, Some, None, Result, Ok, Err, append-nil}
+use Rattle.std.proofs.Common.{◌≡◌, inl, inr, ℕ, ◌≤◌, ◌+◌, arith, Bool, true, false, List, [], ◌∷◌, ◌++◌, length, refl, sym, ap, subst, ◌∙◌, Option, Some, None, Result, Ok, Err, append-nil}
 use Rattle.std.specs.Prelude.{is_err, is_none}
 use Rattle.std.proofs.Math.Bool.{or-false}
 use Rattle.smk_world.specs.declared.event.Call.TheVariants.{Removed as RemovedCall, Settled}
 use Rattle.smk_world.specs.declared.event.Failed.{Failed}
 use Rattle.smk_world.specs.Devices.{Device, HasCalled, HasCarried, Sunk, WhereTold}
 use Rattle.smk_world.specs.Requests.Request.{Settle}
-use Rattle.smk_world.specs.Trees.{Act, Each, Path}
+use Rattle.smk_world.specs.Trees.{Act, Path}
 use Rattle.smk_world.proofs.Devices.{acted_nothing, carried_call}
 use Rattle.smk_flow.specs.Flows.{Flow}
 use Rattle.smk_pick.specs.declared.settings.Settings.{Settings}
-use Rattle.smk_chain.specs.declared.jobs.Jobs.{Jobs}
-use Rattle.smk_plan.specs.declared.wholes.Wholes.{Wholes}
-use Rattle.smk_plan_facts.specs.Telling.{IsSorted, directories_of, wholes_in}
-use Rattle.smk_plan_live.specs.declared.base.Base.{Base}
-use Rattle.smk_plan_live.specs.Lives.{AreWhole, IsLive}
-use Rattle.smk_plan_live.specs.Now.{known_now, seen_now}
+use Rattle.smk_plan_live.specs.Lives.{IsLive}
 use Rattle.smk_report.specs.declared.fault.Fault.{Fault}
 use Rattle.smk_run.proofs.Honest.{given_none}
 use Rattle.smk_laws_turns.specs.Hubs.{Parts}
@@ -43,16 +38,6 @@ pub called_at :
     HasCalled act old new (RemovedCall p s)
 called_at act old new p q r s call at is =
     subst (λ x. HasCalled act old new (RemovedCall p x)) is (subst (λ x. HasCalled act old new (RemovedCall x r)) at call)
-
--- what is whole by what is told of the base
-abbrev pub TellsWhole : Base → Jobs → Wholes → Type 0
-TellsWhole told jobs wholes =
-    Each (Each (IsSorted (seen_now told))) (map (directories_of (known_now told) (seen_now told)) jobs.jobs) →
-    wholes ≡ wholes_in (known_now told) (seen_now told) jobs
-
-pub whole_for : (b told : Base) (jobs : Jobs) (wholes : Wholes) → told ≡ b → jobs ≡ b.jobs → TellsWhole told jobs wholes → AreWhole b wholes
-whole_for b told jobs wholes same same_jobs tells =
-    subst (λ js. TellsWhole b js wholes) same_jobs (subst (λ x. TellsWhole x jobs wholes) same tells)
 
 -- ## The end
 

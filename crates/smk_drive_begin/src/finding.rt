@@ -7,7 +7,6 @@ ghost use Rattle.smk_laws_begins.specs.Sweeping.{IsFirstSpent};
 
 use smk_base::{Copied, OutOfMemory, PathText};
 use smk_drive_pick::spent_paths;
-use smk_plan_facts::wholes_told;
 use smk_plan_live::LivePlan;
 use std::alloc::Global;
 
@@ -23,10 +22,10 @@ fn copied_first(alloc: Global, paths: &[PathText]) -> Result<Option<PathText>, O
 
 /// The first output that is spent by the kept plan and may go, if any.
 pub(crate) fn first_spent(alloc: Global, live: &LivePlan) -> Result<Option<PathText>, OutOfMemory>
+    requires { IsLive live.now }
     ensures { IfOk result (IsFirstSpent live.now) }
 {
-    let wholes = wholes_told(alloc, live.jobs(), live.told())?;
-    let paths = spent_paths(alloc, live, &wholes)?;
+    let paths = spent_paths(alloc, live)?;
     let found = copied_first(alloc, paths.as_slice())?;
     Ok(found)
 }

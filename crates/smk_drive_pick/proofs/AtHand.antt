@@ -1,40 +1,43 @@
 -- What is told to be missing isn't at hand, and a job whose inputs and directories are at hand has at hand all that it awaits.
-use Rattle.std.proofs.Common.{◌≡◌, ◌⊎◌, ℕ, suc, length, Bool, true, false, not, cond, ◌&&◌, ◌||◌, List, [], ◌∷◌, ◌++◌, flat_map, find, refl, sym, ap}
+use Rattle.std.proofs.Common.{◌≡◌, ◌⊎◌, ℕ, suc, length, Bool, true, false, not, cond, ◌&&◌, ◌||◌, List, [], ◌∷◌, ◌++◌, map, flat_map, find, refl, sym, ap}
 use Rattle.std.proofs.Common.{subst, inl, inr, ◌∙◌, Option, Some, None, option_map, is_some, is_none}
-use Rattle.std.specs.Prelude.{bytes_eq}
+use Rattle.std.specs.Prelude.{slice_index_or}
 use Rattle.std.specs.Cmp.{both_ways}
-use Rattle.std.specs.List.{list_all, list_any, slice_get}
+use Rattle.std.specs.List.{list_all, list_any, slice_get, AllZip}
 use Rattle.std.specs.Option.{option_and_then}
 use Rattle.std.proofs.lemmas.List.Folds.{list_any-append}
-use Rattle.smk_choose.proofs.Preferred.{any_flat}
+use Rattle.std.proofs.lemmas.Option.{get_or_from_slice_get}
 use Rattle.smk_base.specs.Path.{is_under}
 use Rattle.smk_base.proofs.Places.{same_place}
 use Rattle.smk_base.proofs.Under.{never_under_itself}
-use Rattle.smk_world.specs.declared.recipe.Item.{Item}
 use Rattle.smk_world.specs.declared.recipe.Kind.TheVariants.{Plain, Folder}
 use Rattle.smk_world.specs.World.{in_paths, out_paths}
 use Rattle.smk_world.specs.Trees.{Path, among, folder_over, folders_of, kind_in}
 use Rattle.smk_flow.specs.declared.job.Job.{Job}
-use Rattle.smk_flow.specs.declared.job.Gather.{Gather}
 use Rattle.smk_store.specs.Images.{Image, is_whole, is_file}
 use Rattle.smk_chain.specs.declared.jobs.Jobs.{Jobs}
 use Rattle.smk_chain.specs.declared.jobs.Maker.{Maker}
 use Rattle.smk_trigger.specs.declared.reason.State.{State}
 use Rattle.smk_trigger.specs.JobStates.{is_clean}
 use Rattle.smk_pick.specs.declared.settings.Settings.{Settings}
-use Rattle.smk_plan.specs.States.{Plan, Progress, makes, gathers_from, is_whole_by, stands_whole, test_some, none_or_one, maker_of, directory_over, awaits}
+use Rattle.smk_plan.specs.States.{Plan, Progress, job_path, makes, gathers_from, is_whole_by, stands_whole, test_some, none_or_one, maker_of, directory_over, awaits}
 use Rattle.smk_plan.specs.States.{is_at_hand}
 use Rattle.smk_plan.specs.Sights.{job_at, is_whole_made}
+use Rattle.smk_plan_facts.specs.Facts.{IsMade}
+use Rattle.smk_plan_states.specs.declared.lines.Gathered.{Gathered}
+use Rattle.smk_plan_states.specs.declared.lines.Origin.{Origin}
+use Rattle.smk_plan_states.specs.Lines.{gathered_of, line_of, link_to, origin_of, tells_of}
 use Rattle.smk_plan_states.specs.Served.{IsToldOf, ReadEarlier, IsBelow}
 use Rattle.smk_plan_states.specs.Judged.{with_states}
 use Rattle.smk_plan_states.proofs.Tests.{any_map}
-use Rattle.smk_drive_pick.specs.Told.{origin_of, origin_told, is_lacking, is_missing, lacks_some}
+use Rattle.smk_drive_pick.specs.Told.{is_lacking, is_missing, lacks_some}
 use Rattle.smk_laws_plan.proofs.CurrentLists.{In, none_some, some_inj, clash_of, or_first, find_in, in_left, in_right, in_either, flat_in, any_in}
 use Rattle.smk_laws_plan.proofs.CurrentLists.{any_from}
 use Rattle.smk_laws_plan.proofs.CurrentPaths.{in_among}
 use Rattle.smk_laws_plan.proofs.CurrentApart.{JobsApart, apart_same, own_apart, Apart}
 use Rattle.smk_laws_plan.proofs.CurrentChosen.{folders_paths}
 use Rattle.smk_laws_plan.proofs.PlanStates.{any_same}
+use Rattle.smk_drive_pick.proofs.Links.{any_inputs, map_at, place_found, zip_at}
 use Rattle.smk_drive_pick.proofs.Lists.{all_or_some}
 use Rattle.smk_drive_pick.proofs.Owners.{at_number, each_in, none_found, none_there}
 
@@ -47,6 +50,12 @@ reads_told J n (x ∷ js) j q h (inl e) k =
     (each_in (λ q. (t : IsToldOf J q) × IsBelow n t.number) (in_paths x.recipe ++ gathers_from x) q h.0
     (subst (λ (y : Job). In q (in_paths y.recipe ++ gathers_from y)) e k)).0
 reads_told J n (x ∷ js) j q h (inr i) k = reads_told J (suc n) js j q h.1 i k
+
+-- the maker that tells of such a path has the right job
+maker_made : (J : Jobs) (q : Path) (h : IsToldOf J q) (m : Maker) → m.path ≡ q → m.job ≡ h.number → IsMade J.jobs m
+maker_made J q h m path job n j numbered at =
+    subst (λ p. makes j p ≡ true) (sym path)
+    (find_in (λ j. makes j q) J.jobs j (h.right ∙ ap (option_and_then (job_at J.jobs)) (sym job ∙ numbered) ∙ at)).1
 
 -- ## Directories
 
@@ -105,7 +114,7 @@ module _
 
   lacking_is : (q : Path) (n : Option ℕ) (w : Bool) → by q ≡ option_and_then (job_at J.jobs) n
       → ((j : Job) → option_and_then (job_at J.jobs) n ≡ Some j → w ≡ stands_whole image q j)
-      → is_lacking ss (record { job = n; whole = w }) ≡ away q
+      → is_lacking ss n w ≡ away q
   lacking_is q None w e h = sym (ap (λ o. not (ready_of q o)) (none_found J.jobs ss q each e))
   lacking_is q (Some n) w e h = go (job_at J.jobs n) refl
     where
@@ -123,17 +132,29 @@ module _
           let m = (find_in (λ j. makes j q) J.jobs j (e ∙ f)).1 in
           states j f m (slice_get ss n) refl ∙ sym (ap (λ o. not (ready_of q o)) (made_at q n j f m))
 
-  pub missing_is : (q : Path) → IsToldOf J q → is_missing ss (origin_told whole J.makers q) ≡ away q
-  missing_is q h = go (find (λ (m : Maker). bytes_eq m.path q) J.makers) refl h.told
-    where
-      go :
-          (o : Option Maker) → find (λ (m : Maker). bytes_eq m.path q) J.makers ≡ o → option_map (λ (m : Maker). m.job) o ≡ Some h.number →
-          is_missing ss (option_map (origin_of whole) o) ≡ away q
-      go None e b = absurd (none_some None h.number refl b)
-      go (Some m) e b =
-          let path = same_place m.path q (find_in (λ (m : Maker). bytes_eq m.path q) J.makers m e).1 in
-          lacking_is q m.job (whole m) (h.right ∙ ap (option_and_then (job_at J.jobs)) (sym (some_inj m.job h.number b)))
-          (λ j f. ap (test_some (stands_whole image m.path)) f ∙ ap (λ p. stands_whole image p j) path)
+  -- by its link, where for each maker it is told what makes its path and whether that is whole
+  module _
+      (origins : List Origin) (wholes : List Bool) (are : origins ≡ map (origin_of J.jobs) J.makers)
+      (flags : AllZip (λ m f. IsMade J.jobs m → f ≡ whole m) J.makers wholes) where
+    pub missing_is : (q : Path) → IsToldOf J q → is_missing ss origins wholes (link_to J.makers q) ≡ away q
+    missing_is q h = go (find (tells_of q) J.makers) refl h.told
+      where
+        go :
+            (o : Option Maker) → find (tells_of q) J.makers ≡ o → option_map (λ (m : Maker). m.job) o ≡ Some h.number →
+            is_missing ss origins wholes (link_to J.makers q) ≡ away q
+        go None e b = absurd (none_some None h.number refl b)
+        go (Some m) e b =
+            let path : m.path ≡ q = same_place m.path q (find_in (tells_of q) J.makers m e).1 in
+            let job : m.job ≡ h.number = some_inj m.job h.number b in
+            let place = place_found (tells_of q) J.makers m e in
+            let flag = zip_at (λ (m : Maker) (f : Bool). IsMade J.jobs m → f ≡ whole m) J.makers wholes flags place.0 m place.2 in
+            let origin : slice_get origins place.0 ≡ Some (origin_of J.jobs m) =
+            ap (λ os. slice_get os place.0) are ∙ map_at (origin_of J.jobs) J.makers place.0 m place.2 in
+            ap (is_missing ss origins wholes) place.1
+            ∙ ap (test_some (λ (o : Origin). is_lacking ss o.job (slice_index_or wholes place.0 false))) origin
+            ∙ ap (is_lacking ss m.job) (get_or_from_slice_get wholes place.0 flag.0 false flag.1 ∙ flag.2 (maker_made J q h m path job))
+            ∙ lacking_is q m.job (whole m) (h.right ∙ ap (option_and_then (job_at J.jobs)) (sym job))
+            (λ j f. ap (test_some (stands_whole image m.path)) f ∙ ap (λ p. stands_whole image p j) path)
 
   -- ## The directories over a path
 
@@ -224,18 +245,21 @@ module _
             let r = any_in away wants h in
             any_from away (in_paths j.recipe ++ awaits P j) r.0 (widen r.0 (in_either r.0 (in_paths j.recipe) (gathers_from j) r.1)) r.2
 
-    lacks_flat : (missing : Path → Bool) → lacks_some missing j ≡ list_any missing wants
-    lacks_flat missing =
-        sym (list_any-append missing (in_paths j.recipe) (gathers_from j)
-        ∙ (λ i. any_flat missing (λ (item : Item). item.paths) j.recipe.inputs i || any_map missing (λ (g : Gather). g.folder) j.gathers i))
+    lacks_flat : (missing : Option ℕ → Bool) (asked : List Path) → lacks_some missing (line_of J asked j) ≡ list_any (λ q. missing (link_to J.makers q)) wants
+    lacks_flat missing asked =
+        (λ i. any_inputs J (job_path j) missing [] (in_paths j.recipe) i
+        || any_map (λ (g : Gathered). missing g.link) (gathered_of J) (gathers_from j) i)
+        ∙ sym (list_any-append (λ q. missing (link_to J.makers q)) (in_paths j.recipe) (gathers_from j))
 
     -- a job lacks nothing where all that it needs is at hand
     pub lacks_is :
-        (missing : Path → Bool) → ((q : Path) → missing q ≡ is_missing ss (origin_told whole J.makers q)) →
-        not (lacks_some missing j) ≡ list_all hand (in_paths j.recipe ++ awaits P j)
-    lacks_is missing are =
+        (origins : List Origin) (wholes : List Bool) → origins ≡ map (origin_of J.jobs) J.makers →
+        AllZip (λ m f. IsMade J.jobs m → f ≡ whole m) J.makers wholes → (asked : List Path) →
+        not (lacks_some (is_missing ss origins wholes) (line_of J asked j)) ≡ list_all hand (in_paths j.recipe ++ awaits P j)
+    lacks_is origins wholes are flags asked =
         ap not
-        (lacks_flat missing
-        ∙ any_same missing away wants (λ q i. are q ∙ missing_is q (reads_told J 0 J.jobs j q reads here i))
+        (lacks_flat (is_missing ss origins wholes) asked
+        ∙ any_same (λ q. is_missing ss origins wholes (link_to J.makers q)) away wants
+        (λ q i. missing_is origins wholes are flags q (reads_told J 0 J.jobs j q reads here i))
         ∙ sym some_away)
         ∙ sym (all_or_some hand (in_paths j.recipe ++ awaits P j))

@@ -1,5 +1,5 @@
 -- The best of the jobs that pass is the first of those with the greatest priority.
-use Rattle.std.proofs.Common.{◌≡◌, ℕ, suc, length, arith, Bool, true, false, cond, ◌&&◌, List, [], ◌∷◌, ◌++◌, filter, find, refl}
+use Rattle.std.proofs.Common.{◌≡◌, ℕ, suc, ◌+◌, length, arith, Bool, true, false, cond, ◌&&◌, List, [], ◌∷◌, ◌++◌, filter, find, refl}
 use Rattle.std.proofs.Common.{sym, ap, subst, inl, inr, ◌∙◌, Option, Some, None, option_map}
 use Rattle.std.specs.Prelude.{nat_le, nat_lt}
 use Rattle.std.specs.List.{list_all, slice_get}
@@ -177,18 +177,29 @@ step all passed (Some best) n e true at h = go (nat_lt best.priority e.0.priorit
 
 all_looked :
     (test : Staged → Bool) (all before rest : List Staged) (best : Option Best) → all ≡ before ++ rest → IsBest all (filter test before) best →
-    IsBest all (filter test all) (best_from test (length before) best rest)
+    IsBest all (filter test all) (best_from (λ n. test) (length before) best rest)
 all_looked test all before [] best e h = subst (λ es. IsBest all (filter test es) best) (sym (e ∙ append_end before)) h
 all_looked test all before (x ∷ rest) best e h =
-    subst (λ n. IsBest all (filter test all) (best_from test n (better best (if_passes test (length before) x)) rest)) (length_next before x)
+    subst (λ n. IsBest all (filter test all) (best_from (λ n. test) n (better best (if_passes test (length before) x)) rest)) (length_next before x)
     (all_looked test all (before ++ x ∷ []) rest (better best (if_passes test (length before) x)) (e ∙ sym (append_next before x rest))
     (subst (λ es. IsBest all es (better best (if_passes test (length before) x))) (sym (filter_more test before x))
     (step all (filter test before) best (length before) x (test x) (ap (λ es. slice_get es (length before)) e ∙ get_next before x rest) h)))
 
+-- the best by number, where the test is the same of each that is there
+pub best_same :
+    (test : ℕ → Staged → Bool) (one : Staged → Bool) (n : ℕ) (best : Option Best) (es : List Staged) →
+    ((k : ℕ) (e : Staged) → slice_get es k ≡ Some e → test (k + n) e ≡ one e) → best_from test n best es ≡ best_from (λ k. one) n best es
+best_same test one n best [] h = refl
+best_same test one n best (e ∷ es) h =
+    let here : test n e ≡ one e = subst (λ m. test m e ≡ one e) (omega arith) (h 0 e refl) in
+    (λ i. best_from test (suc n) (better best (cond (here i) (Some (best_with n e)) None)) es)
+    ∙ best_same test one (suc n) (better best (if_passes one n e)) es
+    (λ k x at. subst (λ m. test m x ≡ one x) (omega arith) (h (suc k) x at))
+
 pub best_is :
     (test : Staged → Bool) (all : List Staged) →
-    option_map (slice_get all) (option_map (λ (b : Best). b.number) (best_from test 0 None all)) ≡ option_map wrapped (first_of (filter test all))
-best_is test all = go (best_from test 0 None all) (all_looked test all [] all None refl refl)
+    option_map (slice_get all) (option_map (λ (b : Best). b.number) (best_from (λ n. test) 0 None all)) ≡ option_map wrapped (first_of (filter test all))
+best_is test all = go (best_from (λ n. test) 0 None all) (all_looked test all [] all None refl refl)
   where
     go :
         (o : Option Best) → IsBest all (filter test all) o → option_map (slice_get all) (option_map (λ (b : Best). b.number) o)

@@ -1,8 +1,8 @@
 -- A job is free to begin by what is told just where it is by the definitions.
-use Rattle.std.proofs.Common.{◌≡◌, Bool, not, ◌&&◌, List, ◌++◌, sym, ap, ◌∙◌, is_some}
-use Rattle.std.specs.Prelude.{bytes_eq}
-use Rattle.std.specs.List.{list_all, list_any}
-use Rattle.std.specs.BTreeSet.{contains_text}
+use Rattle.std.proofs.Common.{◌≡◌, ℕ, Bool, false, not, ◌&&◌, List, [], ◌++◌, map, zip, sym, ap, subst, ◌∙◌, Option, Some, None, option_map, refl}
+use Rattle.std.specs.Prelude.{slice_index_or}
+use Rattle.std.specs.List.{list_all, slice_get, AllZip}
+use Rattle.std.proofs.lemmas.Option.{get_or_from_slice_get, slice_get-map}
 use Rattle.smk_world.specs.World.{in_paths}
 use Rattle.smk_world.specs.Trees.{Path, among}
 use Rattle.smk_flow.specs.declared.job.Job.{Job}
@@ -10,68 +10,126 @@ use Rattle.smk_chain.specs.declared.jobs.Jobs.{Jobs}
 use Rattle.smk_chain.specs.declared.jobs.Maker.{Maker}
 use Rattle.smk_trigger.specs.declared.reason.State.{State}
 use Rattle.smk_trigger.specs.JobStates.{is_to_run}
+use Rattle.smk_pick.specs.declared.settings.Settings.{Settings}
 use Rattle.smk_plan.specs.declared.wholes.Wholes.{Wholes}
 use Rattle.smk_plan.specs.Sights.{is_whole_made}
-use Rattle.smk_plan.specs.States.{awaits, is_at_hand, is_read_now, job_path, kept_state, makes}
-use Rattle.smk_plan_states.specs.Judged.{Judging}
-use Rattle.smk_plan_states.specs.Keys.{at_key}
+use Rattle.smk_plan.specs.States.{awaits, is_at_hand, is_read_now, job_path, kept_state, staged, test_some}
+use Rattle.smk_plan_facts.specs.Facts.{IsMade}
+use Rattle.smk_plan_facts.specs.Telling.{directories_of, is_told_whole, wholes_in}
+use Rattle.smk_plan_states.specs.declared.lines.Line.{Line}
+use Rattle.smk_plan_states.specs.Judged.{Judging, began, with_states}
+use Rattle.smk_plan_states.specs.Lines.{line_of}
+use Rattle.smk_plan_states.specs.Served.{AreServed}
+use Rattle.smk_plan_states.specs.Tables.{IsTableAt, IsTableOf}
 use Rattle.smk_plan_live.specs.declared.live.LivePlan.{LivePlan}
-use Rattle.smk_laws_plan.proofs.CurrentLists.{In}
+use Rattle.smk_plan_live.specs.declared.phase.Phase.{Phase}
+use Rattle.smk_plan_live.specs.Lives.{IsLive, progress_of}
+use Rattle.smk_plan_live.specs.Now.{known_now, seen_now}
+use Rattle.smk_plan_live.specs.Phases.{has_begun}
+use Rattle.smk_plan_live.proofs.Numbered.{begun_are, running_are}
+use Rattle.smk_laws_plan.proofs.CurrentLists.{In, none_some, some_inj}
 use Rattle.smk_laws_plan.proofs.CurrentApart.{JobsApart}
-use Rattle.smk_laws_plan.proofs.PlanStates.{any_same}
+use Rattle.smk_laws_plan.proofs.CurrentRecipes.{map_same}
 use Rattle.smk_drive_pick.specs.declared.next.Ground.{Ground}
 use Rattle.smk_drive_pick.specs.Picking.{AreToldOf, is_free, plan_of}
-use Rattle.smk_drive_pick.specs.Told.{any_named, is_missing, is_read_told, lacks_some, origin_told}
-use Rattle.smk_drive_pick.specs.Grounds.{IsGroundOf, is_free_by}
+use Rattle.smk_drive_pick.specs.Told.{is_missing, lacks_some}
+use Rattle.smk_drive_pick.specs.Grounds.{IsGroundOf, is_free_by, lacks_by}
+use Rattle.smk_drive_pick.proofs.Links.{first_at, flags_by, map_at, there}
 use Rattle.smk_drive_pick.proofs.Lists.{and_over}
 use Rattle.smk_drive_pick.proofs.Owners.{jobs_apart_from}
 use Rattle.smk_drive_pick.proofs.AtHand.{lacks_is}
-use Rattle.smk_drive_pick.proofs.ReadFrom.{read_is}
-use Rattle.smk_drive_pick.proofs.Named.{begun_named, running_named}
 
-module _ (at : Judging) (live : LivePlan) (wholes : Wholes) (told : Ground) (judged : AreToldOf at live wholes) (is : IsGroundOf live wholes told) where
+-- what is whole by what is known and was seen now
+abbrev pub whole_now : LivePlan → Wholes
+whole_now live = wholes_in (known_now live.base) (seen_now live.base) live.base.jobs
+
+module _
+    (at : Judging) (live : LivePlan) (told : Ground) (alive : IsLive live) (judged : AreToldOf at live (whole_now live)) (is : IsGroundOf live told) where
   abbrev J : Jobs
   J = live.base.jobs
 
   abbrev ss : List State
   ss = live.plan.states
 
+  abbrev asked : List Path
+  asked = live.settings.targets
+
   apart : JobsApart J.jobs
   apart = jobs_apart_from J.jobs judged.served.apart
+
+  -- by what is known and was seen now; and by the image
+  abbrev seen_whole : Maker → Bool
+  seen_whole = is_told_whole (seen_now live.base) (map (directories_of (known_now live.base) (seen_now live.base)) J.jobs)
 
   abbrev whole : Maker → Bool
   whole = is_whole_made at.image J.jobs
 
-  origins_are : (q : Path) → at_key told.origins q ≡ origin_told whole J.makers q
-  origins_are = is.made whole (ap (λ (w : Wholes). w.makers) judged.whole)
+  flags_are : AllZip (λ m f. IsMade J.jobs m → f ≡ whole m) J.makers told.hands.wholes.now
+  flags_are =
+      subst (AllZip (λ m f. IsMade J.jobs m → f ≡ whole m) J.makers) (sym is.wholes)
+      (flags_by (IsMade J.jobs) seen_whole whole J.makers live.flags.makers (alive.flags judged.served).makers (ap (λ (w : Wholes). w.makers) judged.whole))
 
-  module _ (e : Job × State) (here : In e.0 J.jobs) where
-    begun_is : contains_text told.begun (job_path e.0) ≡ among at.progress.begun (job_path e.0)
+  -- ## Which jobs are read from
+
+  abbrev reads : Job → Bool
+  reads = is_read_now at.image at.settings at.progress (with_states J [])
+
+  tabled : IsTableAt at J live.table
+  tabled =
+      record {
+        told = subst (λ (s : Settings). IsTableOf J s.targets live.table) (sym judged.settings) alive.table;
+        served = subst (λ (s : Settings). AreServed J s.targets) (sym judged.settings) judged.served;
+      }
+
+  began_are : live.base.began ≡ began at J
+  began_are =
+      sym (map_same (kept_state at.image at.settings at.progress (with_states J []))
+      (kept_state at.image at.settings (progress_of live.base) (with_states J [])) J.jobs (λ j i. judged.progress.running (job_path j))
+      ∙ running_are live.base asked at.image at.settings alive.sound alive.named judged.served)
+
+  -- ## One job
+
+  module _ (n : ℕ) (e : Job × State) (staged_there : slice_get (staged (plan_of live)) n ≡ Some e) where
+    abbrev j : Job
+    j = e.0
+
+    here : slice_get J.jobs n ≡ Some j
+    here = first_at J.jobs ss n e staged_there
+
+    begun_is : test_some has_begun (slice_get told.phases.now n) ≡ among at.progress.begun (job_path j)
     begun_is =
-        is.began (job_path e.0) ∙ begun_named J.jobs live.base.phases (job_path e.0)
-        ∙ sym (judged.progress.begun (job_path e.0))
+        ap (λ ps. test_some has_begun (slice_get ps n)) is.phases ∙ from (slice_get live.base.phases n) (among (progress_of live.base).begun (job_path j)) both
+        ∙ sym (judged.progress.begun (job_path j))
+      where
+        both : option_map has_begun (slice_get live.base.phases n) ≡ Some (among (progress_of live.base).begun (job_path j))
+        both =
+            sym (slice_get-map has_begun live.base.phases n)
+            ∙ ap (λ bs. slice_get bs n) (sym (begun_are live.base asked alive.sound alive.named judged.served))
+            ∙ map_at (λ (k : Job). among (progress_of live.base).begun (job_path k)) J.jobs n j here
+
+        from : (o : Option Phase) (b : Bool) → option_map has_begun o ≡ Some b → test_some has_begun o ≡ b
+        from None b e = absurd (none_some None b refl e)
+        from (Some p) b e = some_inj (has_begun p) b e
+
+    used_is : slice_index_or told.used.items n false ≡ is_read_now at.image at.settings at.progress (plan_of live) j
+    used_is =
+        ap (λ us. slice_index_or us n false) (is.used at tabled began_are)
+        ∙ get_or_from_slice_get (map reads J.jobs) n (reads j) false (map_at reads J.jobs n j here)
+
+    line_is : slice_get told.lines.now n ≡ Some (line_of J asked j)
+    line_is = ap (λ ls. slice_get ls n) (is.lines ∙ alive.table.lines) ∙ map_at (line_of J asked) J.jobs n j here
 
     hands_are :
-        not (lacks_some (λ q. is_missing ss (at_key told.origins q)) e.0)
-        ≡ list_all (is_at_hand at.image at.settings at.progress (plan_of live)) (in_paths e.0.recipe ++ awaits (plan_of live) e.0)
+        not (lacks_by told n) ≡ list_all (is_at_hand at.image at.settings at.progress (plan_of live)) (in_paths j.recipe ++ awaits (plan_of live) j)
     hands_are =
-        lacks_is at.image at.settings at.progress J ss judged.each apart judged.served.reads e.0 here
-        (λ q. is_missing ss (at_key told.origins q)) (λ q. ap (is_missing ss) (origins_are q))
+        ap (λ o. not (test_some (lacks_some (is_missing told.hands.states.now told.hands.origins.now told.hands.wholes.now)) o)) line_is
+        ∙ ap (λ states. not (lacks_some (is_missing states told.hands.origins.now told.hands.wholes.now) (line_of J asked j))) is.states
+        ∙ lacks_is at.image at.settings at.progress J ss judged.each apart judged.served.reads j (there J.jobs n j here)
+        told.hands.origins.now told.hands.wholes.now (is.origins ∙ alive.table.origins) flags_are asked
 
-    runs_is : (k : Job) → any_named is_some J.jobs live.base.began (job_path k) ≡ is_some (kept_state at.image at.settings at.progress (plan_of live) k)
-    runs_is k =
-        running_named J.jobs live.base.began (job_path k)
-        ∙ sym (ap is_some (judged.progress.running (job_path k)))
-
-    read_now : is_read_told (λ q. contains_text told.read q) e.0 ≡ is_read_now at.image at.settings at.progress (plan_of live) e.0
-    read_now =
-        (λ i. is_read_told (λ q. is.readers q i) e.0)
-        ∙ read_is J apart judged.served.reads whole (λ q. at_key told.origins q) origins_are (any_named is_some J.jobs live.base.began) e.0 here
-        ∙ any_same _ _ J.jobs (λ k i. ap (λ b. b && (not (bytes_eq (job_path e.0) (job_path k)) && list_any (makes e.0) (in_paths k.recipe))) (runs_is k))
-
-    pub free_is : is_free_by told ss e ≡ is_free at (plan_of live) e
+    pub free_is : is_free_by told n e.1 ≡ is_free at (plan_of live) e
     free_is =
-        (λ i. is_to_run e.1 && (not (begun_is i) && (hands_are i && not (read_now i))))
+        (λ i. is_to_run e.1 && (not (begun_is i) && (hands_are i && not (used_is i))))
         ∙ sym (and_over (is_to_run e.1) (not (among at.progress.begun (job_path e.0)))
         (list_all (is_at_hand at.image at.settings at.progress (plan_of live)) (in_paths e.0.recipe ++ awaits (plan_of live) e.0))
         (not (is_read_now at.image at.settings at.progress (plan_of live) e.0)))

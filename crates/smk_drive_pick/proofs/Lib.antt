@@ -1,14 +1,13 @@
 mod Lists
+mod Links
 mod Owners
 mod AtHand
-mod ReadFrom
-mod Named
 mod Freed
 mod Firsts
 mod Rooms
 mod Chosen
 mod Awaiting
+mod Needs
 mod Spent
-mod Overs
 mod Listed
 mod Zips

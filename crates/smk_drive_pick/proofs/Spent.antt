@@ -1,39 +1,30 @@
 -- The outputs that are told to be spent are those that are.
-use Rattle.std.proofs.Common.{◌≡◌, Bool, true, false, not, cond, ◌&&◌, ◌||◌, List, [], ◌∷◌, ◌++◌, map, filter, flat_map, refl, sym, ap, subst}
+use Rattle.std.proofs.Common.{◌≡◌, ℕ, Bool, true, false, not, cond, ◌&&◌, ◌||◌, List, [], ◌∷◌, ◌++◌, map, filter, flat_map, length, replicate, zip, refl, sym, ap}
 use Rattle.std.proofs.Common.{◌∙◌}
 use Rattle.std.proofs.Common.{inl, inr}
-use Rattle.std.specs.BTreeSet.{contains_text}
 use Rattle.std.specs.List.{list_all, list_any}
-use Rattle.std.proofs.Math.Bool.{and_comm}
-use Rattle.smk_choose.proofs.Preferred.{any_flat}
-use Rattle.smk_world.specs.declared.recipe.Item.{Item}
-use Rattle.smk_world.specs.declared.recipe.Out.{Out}
-use Rattle.smk_world.specs.declared.recipe.OutItem.{OutItem}
-use Rattle.smk_world.specs.World.{in_paths}
+use Rattle.std.proofs.lemmas.List.{length-map}
 use Rattle.smk_world.specs.Trees.{Path, among}
 use Rattle.smk_flow.specs.declared.job.Job.{Job}
-use Rattle.smk_chain.specs.declared.jobs.Maker.{Maker}
+use Rattle.smk_chain.specs.declared.jobs.Jobs.{Jobs}
 use Rattle.smk_trigger.specs.declared.reason.State.{State}
 use Rattle.smk_trigger.specs.JobStates.{is_clean}
 use Rattle.smk_pick.specs.declared.settings.Settings.{Settings}
 use Rattle.smk_plan.specs.declared.wholes.Wholes.{Wholes}
-use Rattle.smk_plan.specs.Sights.{is_whole_made}
-use Rattle.smk_plan.specs.States.{Plan, awaited, is_held_back, is_input, is_spent, makes_awaited, staged}
+use Rattle.smk_plan.specs.States.{Plan, is_held_back, is_input, is_spent, makes_awaited, staged}
+use Rattle.smk_plan_states.specs.declared.lines.Line.{Line}
 use Rattle.smk_plan_states.specs.Judged.{Judging, any_held_back}
-use Rattle.smk_plan_states.specs.Served.{AreServed}
-use Rattle.smk_plan_states.proofs.Tests.{among_flat, any_map}
+use Rattle.smk_plan_states.specs.Lines.{feeds, line_of, origin_of, temp_of}
+use Rattle.smk_plan_states.specs.Tables.{IsTableOf}
 use Rattle.smk_plan_live.specs.declared.live.LivePlan.{LivePlan}
 use Rattle.smk_laws_plan.proofs.CurrentLists.{In, and_left, and_right, any_none, clash_of, zip_first}
 use Rattle.smk_laws_plan.proofs.CurrentPaths.{in_among}
 use Rattle.smk_laws_plan.proofs.CurrentRecipes.{flat_same}
-use Rattle.smk_laws_plan.proofs.PlanStates.{any_same, filter_same}
-use Rattle.smk_drive_pick.specs.declared.spending.Uses.{Uses}
+use Rattle.smk_laws_plan.proofs.PlanStates.{filter_same}
 use Rattle.smk_drive_pick.specs.Picking.{AreToldOf, plan_of}
-use Rattle.smk_drive_pick.specs.Told.{origin_told}
-use Rattle.smk_drive_pick.specs.Spending.{awaited_told, has_temps, is_done_with, is_needed_by, is_ripe, has_any, makes_some, may_go, ripe_in}
-use Rattle.smk_drive_pick.specs.Spending.{ripe_of, spent_now}
-use Rattle.smk_drive_pick.specs.Uses.{AreUsesOf}
-use Rattle.smk_drive_pick.proofs.Awaiting.{awaited_is}
+use Rattle.smk_drive_pick.specs.Spending.{has_any, has_temps, is_done_with, is_ripe, may_go, need_all, ripe_by, ripe_in, ripe_paths, spent_now}
+use Rattle.smk_drive_pick.proofs.Awaiting.{feeds_is}
+use Rattle.smk_drive_pick.proofs.Needs.{needed_is, noted}
 
 -- ## Booleans
 
@@ -105,6 +96,27 @@ none_held f (x ∷ xs) = go (f x) (none_held f xs)
     go true e = refl
     go false e = e
 
+-- the members for which something passes, one after another
+flat_filter :
+    {A B : Type 0} (f : A → B) (test : A × B → Bool) (xs : List A) → flat_map (λ (e : A × B). cond (test e) (e.0 ∷ []) []) (zip xs (map f xs))
+    ≡ filter (λ x. test (x, f x)) xs
+flat_filter f test [] = refl
+flat_filter {A} {B} f test (x ∷ xs) = go (test (x, f x)) (flat_filter f test xs)
+  where
+    go :
+        (b : Bool) → flat_map (λ (e : A × B). cond (test e) (e.0 ∷ []) []) (zip xs (map f xs)) ≡ filter (λ x. test (x, f x)) xs →
+        cond b (x ∷ []) [] ++ flat_map (λ (e : A × B). cond (test e) (e.0 ∷ []) []) (zip xs (map f xs))
+        ≡ cond b (x ∷ filter (λ x. test (x, f x)) xs) (filter (λ x. test (x, f x)) xs)
+    go true ih = ap (λ ys. x ∷ ys) ih
+    go false ih = ih
+
+flat_zipped :
+    {A B C D : Type 0} (f : A → B) (g : A × (B × C) → List D) (xs : List A) (ys : List C) →
+    flat_map g (zip xs (zip (map f xs) ys)) ≡ flat_map (λ (e : A × C). g (e.0, (f e.0, e.1))) (zip xs ys)
+flat_zipped f g [] ys = refl
+flat_zipped f g (x ∷ xs) [] = refl
+flat_zipped f g (x ∷ xs) (y ∷ ys) = ap (λ ds. g (x, (f x, y)) ++ ds) (flat_zipped f g xs ys)
+
 module _ (at : Judging) (live : LivePlan) (wholes : Wholes) (judged : AreToldOf at live wholes) where
   abbrev P : Plan
   P = plan_of live
@@ -148,66 +160,67 @@ module _ (at : Judging) (live : LivePlan) (wholes : Wholes) (judged : AreToldOf 
 
   -- ## Where nothing does
 
-  module _ (uses : Uses) (told : AreUsesOf live wholes uses) where
-    abbrev whole : Maker → Bool
-    whole = is_whole_made at.image live.base.jobs.jobs
+  module _ (lined : IsTableOf live.base.jobs live.settings.targets live.table) where
+    abbrev J : Jobs
+    J = live.base.jobs
 
-    awaited_now : (d : Path) → contains_text uses.awaited d ≡ among (awaited at.image at.settings at.progress P) d
-    awaited_now d =
-        told.awaited whole (ap (λ (w : Wholes). w.makers) judged.whole) d
-        ∙ ap (λ (s : Settings). awaited_told (origin_told whole live.base.jobs.makers) live.base.jobs.jobs s.targets d) (sym judged.settings)
-        ∙ awaited_is at.image at.settings at.progress live.base.jobs live.plan.states judged.each
-        (subst (λ (s : Settings). AreServed live.base.jobs s.targets) (sym judged.settings) judged.served)
-        whole (origin_told whole live.base.jobs.makers) (λ q. refl) d
+    abbrev ss : List State
+    ss = live.plan.states
 
-    makes_is : (j : Job) → makes_some (λ q. contains_text uses.awaited q) j ≡ makes_awaited at.image at.settings at.progress P j
+    abbrev asked : List Path
+    asked = live.settings.targets
+
+    abbrev line : Job → Line
+    line = line_of J asked
+
+    abbrev needed : List Bool
+    needed = noted J ss judged.served.reads asked
+
+    makes_is : (j : Job) → feeds J asked j ≡ makes_awaited at.image at.settings at.progress P j
     makes_is j =
-        (λ i. list_any (λ (item : OutItem). list_any (λ (o : Out). awaited_now o.path i) item.outs) j.recipe.outputs)
-        ∙ sym (any_flat (among (awaited at.image at.settings at.progress P)) (λ (item : OutItem). map (λ (o : Out). o.path) item.outs) j.recipe.outputs
-        ∙ any_same _ _ j.recipe.outputs (λ item i. any_map (among (awaited at.image at.settings at.progress P)) (λ (o : Out). o.path) item.outs))
+        feeds_is live.settings J ss judged.each judged.served at.image at.progress j
+        ∙ ap (λ (s : Settings). makes_awaited at.image s at.progress P j) (sym judged.settings)
 
-    needed_is : (p : Path) → contains_text uses.needed p ≡ is_input P (λ (k : Job × State). not (is_clean k.1)) p
-    needed_is p =
-        told.needed p
-        ∙ any_same (is_needed_by p) (λ (e : Job × State). among (in_paths e.0.recipe) p && not (is_clean e.1)) (staged P)
-        (λ e i. ap (λ b. not (is_clean e.1) && b) (sym (among_flat (λ (item : Item). item.paths) e.0.recipe.inputs p))
-        ∙ and_comm (not (is_clean e.1)) (among (in_paths e.0.recipe) p))
+    targets_are : (p : Path) → among asked p ≡ among at.settings.targets p
+    targets_are p = ap (λ (s : Settings). among s.targets p) (sym judged.settings)
 
-    targets_are : (p : Path) → contains_text uses.targets p ≡ among at.settings.targets p
-    targets_are p = told.targets p ∙ ap (λ (s : Settings). among s.targets p) (sym judged.settings)
-
-    abbrev ripe : Path → Bool
-    ripe = is_ripe live (λ q. contains_text uses.targets q) (λ q. contains_text uses.needed q)
-
-    abbrev waited : Path → Bool
-    waited q = contains_text uses.awaited q
-
-    pub ripe_is :
-        list_all is_done_with live.plan.states ≡ true → any_held_back at live.base.jobs live.plan.states ≡ false → ripe_in waited ripe (staged P)
-        ≡ spent_now at live
-    ripe_is done unheld =
-        flat_same (ripe_of waited ripe) (λ (e : Job × State). filter (goes_now e) e.0.temps) (staged P)
-        (λ e i. one e (is_clean e.1 && not (makes_some waited e.0)) refl)
+    ripe_one :
+        (e : Job × State) → list_all is_done_with ss ≡ true → any_held_back at J ss ≡ false → ripe_by live needed (e.0, (line e.0, e.1))
+        ≡ filter (goes_now e) e.0.temps
+    ripe_one e done unheld = one (is_clean e.1 && not (feeds J asked e.0)) refl
       where
-        same_makes :
-            (e : Job × State) → (is_clean e.1 && not (makes_some waited e.0)) ≡ (is_clean e.1 && not (makes_awaited at.image at.settings at.progress P e.0))
-        same_makes e = ap (λ b. is_clean e.1 && not b) (makes_is e.0)
+        same_makes : (is_clean e.1 && not (feeds J asked e.0)) ≡ (is_clean e.1 && not (makes_awaited at.image at.settings at.progress P e.0))
+        same_makes = ap (λ b. is_clean e.1 && not b) (makes_is e.0)
 
         one :
-            (e : Job × State) (b : Bool) → (is_clean e.1 && not (makes_some waited e.0)) ≡ b → cond b (filter ripe e.0.temps) []
+            (b : Bool) → (is_clean e.1 && not (feeds J asked e.0)) ≡ b → cond b (ripe_paths live needed (zip e.0.temps (map (temp_of J asked) e.0.temps))) []
             ≡ filter (goes_now e) e.0.temps
-        one e true h =
-            filter_same ripe (goes_now e) e.0.temps
-            (λ p k. (λ i. not (targets_are p i) && (not (needed_is p i) && may_go live p))
+        one true h =
+            flat_filter (temp_of J asked) (is_ripe live needed) e.0.temps
+            ∙ filter_same (λ p. is_ripe live needed (p, temp_of J asked p)) (goes_now e) e.0.temps
+            (λ p k. (λ i. not (targets_are p i) && (not (needed_is J ss judged.served.reads asked p i) && may_go live p))
             ∙ sym (ripe_bool (among e.0.temps p) (not (makes_awaited at.image at.settings at.progress P e.0))
             (not (among at.settings.targets p)) (is_clean e.1)
             (not (is_input P (λ (k : Job × State). not (is_clean k.1)) p)) (list_all is_done_with live.plan.states)
             (list_all (λ j. not (held j)) live.base.jobs.jobs) (may_go live p)
-            (in_among e.0.temps p k) (sym (same_makes e) ∙ h) done (none_held held live.base.jobs.jobs ∙ ap not unheld)))
-        one e false h =
+            (in_among e.0.temps p k) (sym same_makes ∙ h) done (none_held held live.base.jobs.jobs ∙ ap not unheld)))
+        one false h =
             sym (filter_none (goes_now e) e.0.temps
             (λ p k. unripe_bool (among e.0.temps p) (not (makes_awaited at.image at.settings at.progress P e.0))
             (not (among at.settings.targets p)) (is_clean e.1)
             (not (is_input P (λ (k : Job × State). not (is_clean k.1)) p)) (list_all is_done_with live.plan.states)
             (list_all (λ j. not (held j)) live.base.jobs.jobs) (may_go live p)
-            (sym (same_makes e) ∙ h)))
+            (sym same_makes ∙ h)))
+
+    pub ripe_is :
+        list_all is_done_with ss ≡ true → any_held_back at J ss ≡ false →
+        ripe_in live (need_all (replicate (length live.table.origins) false) (zip live.table.lines ss)) (zip J.jobs (zip live.table.lines ss))
+        ≡ spent_now at live
+    ripe_is done unheld =
+        (λ i. ripe_in live (need_all (replicate (counted i) false) (zip (lined.lines i) ss)) (zip J.jobs (zip (lined.lines i) ss)))
+        ∙ flat_zipped line (ripe_by live needed) J.jobs ss
+        ∙ flat_same (λ (e : Job × State). ripe_by live needed (e.0, (line e.0, e.1))) (λ (e : Job × State). filter (goes_now e) e.0.temps) (staged P)
+        (λ e i. ripe_one e done unheld)
+      where
+        counted : length live.table.origins ≡ length J.makers
+        counted = ap length lined.origins ∙ length-map J.makers (origin_of J.jobs)

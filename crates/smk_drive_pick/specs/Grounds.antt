@@ -1,34 +1,42 @@
--- What is told of the jobs of a kept plan, besides their states.
-use Rattle.std.specs.Prelude.{◌≡◌, Bool, ◌&&◌, List, map, is_some}
-use Rattle.std.specs.BTreeSet.{contains_text}
-use Rattle.smk_world.specs.Trees.{Path}
+-- What is told of the jobs of a kept plan.
+use Rattle.std.specs.Prelude.{◌≡◌, ℕ, Bool, false, ◌&&◌, not, [], map, slice_index_or}
+use Rattle.std.specs.List.{slice_get}
 use Rattle.smk_flow.specs.declared.job.Job.{Job}
-use Rattle.smk_chain.specs.declared.jobs.Maker.{Maker}
 use Rattle.smk_trigger.specs.declared.reason.State.{State}
+use Rattle.smk_trigger.specs.JobStates.{is_to_run}
 use Rattle.smk_pick.specs.declared.room.Room.{Room}
 use Rattle.smk_pick.specs.Shares.{fits_in}
-use Rattle.smk_plan.specs.declared.wholes.Wholes.{Wholes}
-use Rattle.smk_plan_states.specs.Keys.{at_key}
+use Rattle.smk_plan.specs.States.{is_read_now, test_some}
+use Rattle.smk_plan_states.specs.Judged.{Judging, began, with_states}
+use Rattle.smk_plan_states.specs.Tables.{IsTableAt}
 use Rattle.smk_drive.specs.Lawful.{ask_of}
 use Rattle.smk_plan_live.specs.declared.live.LivePlan.{LivePlan}
 use Rattle.smk_plan_live.specs.Phases.{has_begun}
 use Rattle.smk_drive_pick.specs.declared.next.Ground.{Ground}
-use Rattle.smk_drive_pick.specs.Told.{any_named, is_free_told, is_missing, origin_told, read_told}
+use Rattle.smk_drive_pick.specs.Told.{is_missing, lacks_some}
 
 -- It tells what the kept plan has of its jobs.
-pub record IsGroundOf (live : LivePlan) (wholes : Wholes) (told : Ground) : Type 0 where
-  pub made :
-      (whole : Maker → Bool) → wholes.makers ≡ map whole live.base.jobs.makers →
-      (q : Path) → at_key told.origins q ≡ origin_told whole live.base.jobs.makers q
-  pub began : (q : Path) → contains_text told.begun q ≡ any_named has_begun live.base.jobs.jobs live.base.phases q
-  pub readers :
-      (q : Path) → contains_text told.read q
-      ≡ read_told (λ p. at_key told.origins p) (any_named is_some live.base.jobs.jobs live.base.began) live.base.jobs.jobs q
+pub record IsGroundOf (live : LivePlan) (told : Ground) : Type 0 where
+  pub lines : told.lines.now ≡ live.table.lines
+  pub phases : told.phases.now ≡ live.base.phases
+  pub origins : told.hands.origins.now ≡ live.table.origins
+  pub wholes : told.hands.wholes.now ≡ live.flags.makers
+  pub states : told.hands.states.now ≡ live.plan.states
+  -- from which jobs the children of others read
+  pub used :
+      (at : Judging) → IsTableAt at live.base.jobs live.table → live.base.began ≡ began at live.base.jobs →
+      told.used.items ≡ map (is_read_now at.image at.settings at.progress (with_states live.base.jobs [])) live.base.jobs.jobs
 
--- the job may begin, by what is told and these states
-abbrev pub is_free_by : Ground → List State → Job × State → Bool
-is_free_by told states e = is_free_told (λ q. is_missing states (at_key told.origins q)) (λ q. contains_text told.begun q) (λ q. contains_text told.read q) e
+-- something that the job of the number needs isn't at hand
+abbrev pub lacks_by : Ground → ℕ → Bool
+lacks_by told n = test_some (lacks_some (is_missing told.hands.states.now told.hands.origins.now told.hands.wholes.now)) (slice_get told.lines.now n)
+
+-- the job of the number, with this state, may begin by what is told
+abbrev pub is_free_by : Ground → ℕ → State → Bool
+is_free_by told n s =
+    is_to_run s
+    && (not (test_some has_begun (slice_get told.phases.now n)) && (not (lacks_by told n) && not (slice_index_or told.used.items n false)))
 
 -- and fits into the room
-abbrev pub may_begin_by : Ground → List State → Room → Job × State → Bool
-may_begin_by told states room e = is_free_by told states e && fits_in room (ask_of e.0)
+abbrev pub may_begin_by : Ground → Room → ℕ → Job × State → Bool
+may_begin_by told room n e = is_free_by told n e.1 && fits_in room (ask_of e.0)

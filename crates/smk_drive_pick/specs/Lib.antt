@@ -2,4 +2,3 @@ pub mod Picking
 pub mod Told
 pub mod Grounds
 pub mod Spending
-pub mod Uses

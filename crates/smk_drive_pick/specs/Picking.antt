@@ -16,7 +16,7 @@ use Rattle.smk_plan_states.specs.Judged.{Judging}
 use Rattle.smk_plan_states.specs.Served.{AreServed}
 use Rattle.smk_drive.specs.Lawful.{ask_of, first_of}
 use Rattle.smk_plan_live.specs.declared.live.LivePlan.{LivePlan}
-use Rattle.smk_plan_live.specs.Lives.{progress_of}
+use Rattle.smk_plan_live.specs.Lives.{AreWhole, progress_of}
 
 -- the plan that is kept
 abbrev pub plan_of : LivePlan → Plan
@@ -60,3 +60,9 @@ IsNextIn live wholes room found =
     AreToldOf at live wholes →
     Holds cores bounds room asks →
     option_map (slice_get (staged (plan_of live))) found ≡ option_map wrapped (first_of (may_begin at (plan_of live) cores bounds asks))
+
+-- So it is by what is whole now.
+pub record IsNextNow (live : LivePlan) (room : Room) (found : Option ℕ) : Type 0 where
+  pub wholes : Wholes
+  pub whole : AreWhole live.base wholes
+  pub next : IsNextIn live wholes room found

@@ -1,18 +1,13 @@
 -- Which outputs are spent and may go, by what is told of paths and jobs.
-use Rattle.std.specs.Prelude.{◌≡◌, Bool, true, false, ◌&&◌, ◌||◌, not, List, [], ◌∷◌, map, filter, zip, bytes_eq, if◌then◌else◌, Option, option_map}
-use Rattle.std.specs.List.{find, flat_map, list_all, list_any}
+use Rattle.std.specs.Prelude.{◌≡◌, ℕ, Bool, true, false, ◌&&◌, not, List, [], ◌∷◌, filter, zip, bytes_eq, slice_set, if◌then◌else◌, Option, Some, None, option_map}
+use Rattle.std.specs.List.{flat_map, list_all, list_any}
 use Rattle.std.specs.Option.{option_and_then}
-use Rattle.smk_base.specs.Path.{is_under}
 use Rattle.smk_world.specs.declared.event.Stat.{Stat}
 use Rattle.smk_world.specs.declared.event.Stat.TheVariants.{Nothing, File, Folder}
-use Rattle.smk_world.specs.declared.recipe.Item.{Item}
-use Rattle.smk_world.specs.declared.recipe.Out.{Out}
-use Rattle.smk_world.specs.declared.recipe.OutItem.{OutItem}
-use Rattle.smk_world.specs.Trees.{Path, among, is_folder_kind}
+use Rattle.smk_world.specs.Trees.{Path}
 use Rattle.smk_record.specs.declared.record.Member.{Member}
 use Rattle.smk_record.specs.Records.{members_of, same_flag, same_member}
 use Rattle.smk_flow.specs.declared.job.Job.{Job}
-use Rattle.smk_flow.specs.declared.job.Gather.{Gather}
 use Rattle.smk_store.specs.declared.store.Entry.{Entry}
 use Rattle.smk_store.specs.declared.store.Kept.{Kept}
 use Rattle.smk_store.specs.Images.{readable}
@@ -23,11 +18,14 @@ use Rattle.smk_plan.specs.declared.seen.Sight.{Sight}
 use Rattle.smk_plan.specs.declared.wholes.Wholes.{Wholes}
 use Rattle.smk_plan.specs.Sights.{sight_at}
 use Rattle.smk_plan.specs.States.{is_spent, staged, test_some}
+use Rattle.smk_plan_states.specs.declared.lines.Input.{Input}
+use Rattle.smk_plan_states.specs.declared.lines.Line.{Line}
+use Rattle.smk_plan_states.specs.declared.lines.Temp.{Temp}
 use Rattle.smk_plan_states.specs.Judged.{Judging, any_held_back}
 use Rattle.smk_plan_live.specs.declared.live.LivePlan.{LivePlan}
+use Rattle.smk_plan_live.specs.Lives.{AreWhole, IsLive}
 use Rattle.smk_plan_live.specs.Now.{known_now, seen_now}
-use Rattle.smk_drive_pick.specs.declared.origins.Origin.{Origin}
-use Rattle.smk_drive_pick.specs.Told.{maker_told}
+use Rattle.smk_drive_pick.specs.Told.{has_flag}
 use Rattle.smk_drive_pick.specs.Picking.{AreToldOf, plan_of}
 
 -- ## What stands at a path
@@ -69,6 +67,12 @@ abbrev pub AreSpentIn : LivePlan → Wholes → List Path → Type 0
 AreSpentIn live wholes found =
     (at : Judging) → AreToldOf at live wholes → live.held ≡ any_held_back at live.base.jobs live.plan.states → found ≡ spent_now at live
 
+-- So they are by what is whole now.
+pub record AreSpentNow (live : LivePlan) (found : List Path) : Type 0 where
+  pub wholes : Wholes
+  pub whole : AreWhole live.base wholes
+  pub spent : AreSpentIn live wholes found
+
 -- the member of this name, a folder or a file
 abbrev pub is_named_member : Bool → Path → Member → Bool
 is_named_member folder q m = same_flag folder m.folder && bytes_eq q m.name
@@ -77,40 +81,7 @@ is_named_member folder q m = same_flag folder m.folder && bytes_eq q m.name
 abbrev pub is_listed_in : (Path → Bool) → (Path → Bool) → Member → Bool
 is_listed_in folders files m = if m.folder then folders m.name else files m.name
 
--- ## Directories that are awaited
-
-abbrev pub over_in : List Out → Path → Option Path
-over_in outs p = find (is_under p) (map (λ (o : Out). o.path) (filter (λ (o : Out). is_folder_kind o.kind) outs))
-
-abbrev pub outs_in : List OutItem → List Out
-outs_in items = flat_map (λ (i : OutItem). i.outs) items
-
-module _ (origins : Path → Option Origin) (jobs : List Job) where
-  -- the directory output over the path, of the job that makes it
-  abbrev pub over_told : Path → Option Path
-  over_told q = option_and_then (λ (j : Job). over_in (outs_in j.recipe.outputs) q) (maker_told jobs (origins q))
-
-  abbrev pub is_over : Path → Path → Bool
-  is_over d q = test_some (bytes_eq d) (over_told q)
-
-  -- it is gathered from, or over what is
-  abbrev pub folder_told : Path → Gather → Bool
-  folder_told d g = bytes_eq d g.folder || is_over d g.folder
-
-  abbrev pub awaits_told : Path → Job → Bool
-  awaits_told d j = list_any (λ (item : Item). list_any (is_over d) item.paths) j.recipe.inputs || list_any (folder_told d) j.gathers
-
-  abbrev pub awaited_told : List Path → Path → Bool
-  awaited_told targets d = list_any (awaits_told d) jobs || list_any (is_over d) targets
-
 -- ## Spent outputs
-
--- the job isn't Clean, and reads the path
-abbrev pub is_needed_by : Path → Job × State → Bool
-is_needed_by q e = not (is_clean e.1) && list_any (λ (item : Item). among item.paths q) e.0.recipe.inputs
-
-abbrev pub needed_told : List Job → List State → Path → Bool
-needed_told jobs states q = list_any (is_needed_by q) (zip jobs states)
 
 abbrev pub has_any : List Path → Bool
 has_any [] = false
@@ -124,17 +95,47 @@ has_temps j = has_any j.temps
 abbrev pub is_done_with : State → Bool
 is_done_with s = not (is_open s) && not (is_restore s)
 
--- one of these outputs passes the test
-abbrev pub makes_some : (Path → Bool) → Job → Bool
-makes_some test j = list_any (λ (item : OutItem). list_any (λ (o : Out). test o.path) item.outs) j.recipe.outputs
+-- ## What is needed
 
--- it is neither a target nor needed, and may go
-abbrev pub is_ripe : LivePlan → (Path → Bool) → (Path → Bool) → Path → Bool
-is_ripe live targets needed p = not (targets p) && (not (needed p) && may_go live p)
+-- the path of the link is
+abbrev pub with_need : List Bool → Option ℕ → List Bool
+with_need flags None = flags
+with_need flags (Some n) = slice_set flags n true
 
--- the outputs of the job that are spent, where nothing else keeps them
-abbrev pub ripe_of : (Path → Bool) → (Path → Bool) → Job × State → List Path
-ripe_of awaited ripe e = if is_clean e.1 && not (makes_some awaited e.0) then filter ripe e.0.temps else []
+-- the inputs are
+abbrev pub need_each : List Bool → List Input → List Bool
+need_each flags [] = flags
+need_each flags (i ∷ inputs) = need_each (with_need flags i.link) inputs
 
-abbrev pub ripe_in : (Path → Bool) → (Path → Bool) → List (Job × State) → List Path
-ripe_in awaited ripe es = flat_map (ripe_of awaited ripe) es
+-- those of the job are, unless it is Clean
+abbrev pub need_of : List Bool → Line × State → List Bool
+need_of flags e = if is_clean e.1 then flags else need_each flags e.0.inputs
+
+abbrev pub need_all : List Bool → List (Line × State) → List Bool
+need_all flags [] = flags
+need_all flags (e ∷ es) = need_all (need_of flags e) es
+
+-- ## What is spent
+
+module _ (live : LivePlan) (needed : List Bool) where
+  -- the output is neither a target nor needed, and may go
+  abbrev pub is_ripe : Path × Temp → Bool
+  is_ripe e = not e.1.target && (not (has_flag needed e.1.link) && may_go live e.0)
+
+  abbrev pub ripe_of : Path × Temp → List Path
+  ripe_of e = if is_ripe e then e.0 ∷ [] else []
+
+  abbrev pub ripe_paths : List (Path × Temp) → List Path
+  ripe_paths es = flat_map ripe_of es
+
+  -- the outputs of the job that are spent, where nothing else keeps them
+  abbrev pub ripe_by : Job × (Line × State) → List Path
+  ripe_by e = if is_clean e.1.1 && not e.1.0.feeds then ripe_paths (zip e.0.temps e.1.0.temps) else []
+
+  abbrev pub ripe_in : List (Job × (Line × State)) → List Path
+  ripe_in es = flat_map ripe_by es
+
+-- These are the outputs that are spent and may go, where nothing keeps all of them.
+abbrev pub AreRipeOf : LivePlan → List Path → Type 0
+AreRipeOf live found =
+    IsLive live → list_all is_done_with live.plan.states ≡ true → live.held ≡ false → (wholes : Wholes) → AreSpentIn live wholes found

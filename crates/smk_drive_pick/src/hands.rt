@@ -3,15 +3,25 @@
 ghost use Rattle.std.specs.Prelude.{◌≡◌, option_map};
 ghost use Rattle.std.specs.List.{list_any, slice_get};
 ghost use Rattle.std.specs.Option.{option_and_then};
-ghost use Rattle.smk_plan_states.specs.Keys.{at_key};
 ghost use Rattle.smk_trigger.specs.JobStates.{is_to_run};
-ghost use Rattle.smk_drive_pick.specs.Told.{is_lacking, is_missing, lacks_some};
+ghost use Rattle.smk_plan_states.specs.declared.lines.Gathered.{Gathered as GatheredValue};
+ghost use Rattle.smk_plan_states.specs.declared.lines.Input.{Input as InputValue};
+ghost use Rattle.smk_drive_pick.specs.Told.{is_away, is_lacking, is_missing, lacks_some};
 
-use crate::origins::{Origin, Origins};
-use smk_base::PathText;
-use smk_flow::{Gather, Job};
+use crate::numbers::flag_at;
+use smk_plan_states::{Gathered, Input, Line, Origin};
 use smk_trigger::State;
-use smk_world::Item;
+
+/// What is told of the paths of makers, by their numbers.
+#[derive(Clone, Copy)]
+pub(crate) struct Hands<'l> {
+    /// What makes each of them.
+    pub(crate) origins: &'l [Origin],
+    /// Which of them are whole.
+    pub(crate) wholes: &'l [bool],
+    /// The states of the jobs.
+    pub(crate) states: &'l [State],
+}
 
 // The state of the job of the number.
 fn state_at(states: &[State], number: Option<u32>) -> Option<&State>
@@ -23,71 +33,70 @@ fn state_at(states: &[State], number: Option<u32>) -> Option<&State>
     }
 }
 
-// Whether a job makes it that isn't Clean, or it isn't whole.
-fn is_lacking(states: &[State], origin: &Origin) -> bool
-    ensures { result ≡ is_lacking states.now origin.now }
+// Whether the job of the number isn't Clean, or what it makes isn't whole; a source is neither.
+fn is_lacking(states: &[State], job: Option<u32>, whole: bool) -> bool
+    ensures { result ≡ is_lacking states.now job whole }
 {
-    match state_at(states, origin.job) {
+    match state_at(states, job) {
         None => false,
-        Some(State::Clean) => !origin.whole,
+        Some(State::Clean) => !whole,
         Some(State::Open) => true,
         Some(State::Dirty(_)) => true,
         Some(State::Restore) => true,
     }
 }
 
-// Whether the path isn't at hand: a job makes it that isn't Clean, or it isn't whole.
-fn is_missing(origins: &Origins<'_>, states: &[State], path: &PathText) -> bool
-    ensures { result ≡ is_missing states.now (at_key origins.now path.now) }
-{
-    match origins.get(path.as_str()) {
-        None => false,
-        Some(origin) => is_lacking(states, origin),
-    }
-}
-
-// Whether one of the paths isn't at hand.
-fn any_missing(origins: &Origins<'_>, states: &[State], paths: &[PathText]) -> bool
-    ensures { result ≡ list_any (λ q. is_missing states.now (at_key origins.now q)) paths.now }
-{
-    for path in paths {
-        if is_missing(origins, states, path) {
-            return true;
+impl Hands<'_> {
+    // Whether the path of the maker of this number isn't at hand.
+    fn is_away(&self, number: usize) -> bool
+        ensures { result ≡ is_away self.now.states.now self.now.origins.now self.now.wholes.now number }
+    {
+        match self.origins.get(number) {
+            None => false,
+            Some(origin) => is_lacking(self.states, origin.job, flag_at(self.wholes, number)),
         }
     }
-    false
-}
 
-// Whether one of the inputs isn't at hand.
-fn any_input_missing(origins: &Origins<'_>, states: &[State], items: &[Item]) -> bool
-    ensures { result ≡ list_any (λ item. list_any (λ q. is_missing states.now (at_key origins.now q)) item.paths) items.now }
-{
-    for item in items {
-        if any_missing(origins, states, item.paths.as_slice()) {
-            return true;
+    // The same of a path, by its link.
+    fn is_missing(&self, link: Option<usize>) -> bool
+        ensures { result ≡ is_missing self.now.states.now self.now.origins.now self.now.wholes.now link }
+    {
+        match link {
+            None => false,
+            Some(number) => self.is_away(number),
         }
     }
-    false
-}
 
-// Whether one of the directories that are gathered from isn't at hand.
-fn any_folder_missing(origins: &Origins<'_>, states: &[State], gathers: &[Gather]) -> bool
-    ensures { result ≡ list_any (λ g. is_missing states.now (at_key origins.now g.folder)) gathers.now }
-{
-    for gather in gathers {
-        if is_missing(origins, states, &gather.folder) {
-            return true;
+    // Whether one of the inputs isn't at hand.
+    fn lacks_input(&self, inputs: &[Input]) -> bool
+        ensures { result ≡ list_any (λ (i : InputValue). is_missing self.now.states.now self.now.origins.now self.now.wholes.now i.link) inputs.now }
+    {
+        for input in inputs {
+            if self.is_missing(input.link) {
+                return true;
+            }
         }
+        false
     }
-    false
-}
 
-/// Whether an input of the job, or a directory that it gathers from, isn't at hand.
-pub(crate) fn lacks_some(origins: &Origins<'_>, states: &[State], job: &Job) -> bool
-    ensures { result ≡ lacks_some (λ q. is_missing states.now (at_key origins.now q)) job.now }
-{
-    any_input_missing(origins, states, job.recipe.inputs.as_slice())
-        || any_folder_missing(origins, states, job.gathers.as_slice())
+    // Whether one of the directories that are gathered from isn't at hand.
+    fn lacks_folder(&self, gathers: &[Gathered]) -> bool
+        ensures { result ≡ list_any (λ (g : GatheredValue). is_missing self.now.states.now self.now.origins.now self.now.wholes.now g.link) gathers.now }
+    {
+        for gathered in gathers {
+            if self.is_missing(gathered.link) {
+                return true;
+            }
+        }
+        false
+    }
+
+    /// Whether an input of the job, or a directory that it gathers from, isn't at hand.
+    pub(crate) fn lacks_some(&self, line: &Line) -> bool
+        ensures { result ≡ lacks_some (is_missing self.now.states.now self.now.origins.now self.now.wholes.now) line.now }
+    {
+        self.lacks_input(line.inputs.as_slice()) || self.lacks_folder(line.gathers.as_slice())
+    }
 }
 
 /// Whether a job with this state is to run.

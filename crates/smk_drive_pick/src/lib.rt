@@ -2,12 +2,9 @@
 #![tactic(auto)]
 
 mod asking;
-mod folders;
 mod hands;
-mod names;
 mod next;
-mod origins;
-mod reading;
+mod numbers;
 mod spending;
 mod standing;
 

@@ -1,32 +1,33 @@
 //! The job that begins next.
 
 ghost use Rattle.std.specs.Prelude.{◌≡◌, None, zip, option_map, IfOk};
-ghost use Rattle.smk_drive_pick.specs.Picking.{IsNextIn};
+ghost use Rattle.std.specs.List.{slice_get};
+ghost use Rattle.smk_plan.specs.States.{test_some};
+ghost use Rattle.smk_plan_live.specs.Lives.{IsLive};
+ghost use Rattle.smk_plan_live.specs.Phases.{has_begun};
+ghost use Rattle.smk_drive_pick.specs.Picking.{IsNextNow};
 ghost use Rattle.smk_drive_pick.specs.Told.{best_from, better, if_passes};
-ghost use Rattle.smk_drive_pick.specs.Grounds.{IsGroundOf, is_free_by, may_begin_by};
+ghost use Rattle.smk_drive_pick.specs.Grounds.{IsGroundOf, is_free_by, lacks_by, may_begin_by};
 
 use crate::asking::ask_of;
-use crate::hands::{is_to_run, lacks_some};
-use crate::names::{begun_of, is_named, running_of};
-use crate::origins::{Origins, origins_of};
-use crate::reading::{is_read, read_of};
+use crate::hands::{Hands, is_to_run};
+use crate::numbers::flag_at;
 use smk_base::OutOfMemory;
 use smk_flow::Job;
 use smk_pick::Room;
-use smk_plan::Wholes;
-use smk_plan_live::LivePlan;
+use smk_plan_live::{LivePlan, Phase};
+use smk_plan_states::Line;
 use smk_trigger::State;
 use std::alloc::Global;
-use std::collections::BTreeSet;
 
-// What is told of jobs besides their states.
+// What is told of jobs, by their numbers.
 #[derive(Drop)]
-struct Ground<'j> {
-    origins: Origins<'j>,
-    // The names of the jobs that have begun.
-    begun: BTreeSet<String>,
-    // The names of the jobs from which the children of others read.
-    read: BTreeSet<String>,
+struct Ground<'l> {
+    lines: &'l [Line],
+    phases: &'l [Phase],
+    hands: Hands<'l>,
+    // From which jobs the children of others read.
+    used: Vec<bool>,
 }
 
 // A job that may begin.
@@ -37,38 +38,64 @@ struct Best {
 }
 
 // What is told of the jobs of the plan.
-fn ground_of<'j>(
-    alloc: Global,
-    live: &'j LivePlan,
-    wholes: &Wholes,
-) -> Result<Ground<'j>, OutOfMemory>
-    ensures { IfOk result (λ told. IsGroundOf live.now wholes.now told) }
+fn ground_of(alloc: Global, live: &LivePlan) -> Result<Ground<'_>, OutOfMemory>
+    ensures { IfOk result (λ told. IsGroundOf live.now told) }
 {
-    let jobs = live.jobs().jobs.as_slice();
-    let origins = origins_of(
-        alloc,
-        live.jobs().makers.as_slice(),
-        wholes.makers.as_slice(),
-    )?;
-    let begun = begun_of(alloc, jobs, live.phases())?;
-    let running = running_of(alloc, jobs, live.ran_from())?;
-    let read = read_of(alloc, &origins, jobs, &running)?;
+    let table = live.table();
+    let used = table.in_use(alloc, live.ran_from())?;
+    let hands = Hands {
+        origins: table.origins(),
+        wholes: live.makers_whole(),
+        states: live.as_plan().states.as_slice(),
+    };
     Ok(Ground {
-        origins,
-        begun,
-        read,
+        lines: table.lines(),
+        phases: live.phases(),
+        hands,
+        used,
     })
 }
 
+// Whether a job that has come so far has begun.
+fn has_begun(phase: Phase) -> bool
+    ensures { result ≡ has_begun phase }
+{
+    match phase {
+        Phase::Waiting => false,
+        Phase::Running => true,
+        Phase::Closed => true,
+    }
+}
+
 impl Ground<'_> {
-    // Whether the job is to run, hasn't begun, has all that it needs at hand, and no child reads what it makes.
-    fn is_free(&self, states: &[State], job: &Job, state: &State) -> bool
-        ensures { result ≡ is_free_by self.now states.now (job.now, state.now) }
+    // Whether the job of the number has begun.
+    fn has_begun(&self, number: usize) -> bool
+        ensures { result ≡ test_some has_begun (slice_get self.now.phases.now number) }
+    {
+        match self.phases.get(number) {
+            None => false,
+            Some(phase) => has_begun(*phase),
+        }
+    }
+
+    // Whether something that the job of the number needs isn't at hand.
+    fn lacks_some(&self, number: usize) -> bool
+        ensures { result ≡ lacks_by self.now number }
+    {
+        match self.lines.get(number) {
+            None => false,
+            Some(line) => self.hands.lacks_some(line),
+        }
+    }
+
+    // Whether the job of the number, in this state, is to run, hasn't begun, has all that it needs at hand, and no child reads what it makes.
+    fn is_free(&self, number: usize, state: &State) -> bool
+        ensures { result ≡ is_free_by self.now number state.now }
     {
         is_to_run(state)
-            && !is_named(&self.begun, job)
-            && !lacks_some(&self.origins, states, job)
-            && !is_read(&self.read, job)
+            && !self.has_begun(number)
+            && !self.lacks_some(number)
+            && !flag_at(self.used.as_slice(), number)
     }
 
     // The job of the number, where it may begin in the room.
@@ -76,14 +103,13 @@ impl Ground<'_> {
         &self,
         alloc: Global,
         room: &Room,
-        states: &[State],
         number: usize,
         job: &Job,
         state: &State,
     ) -> Result<Option<Best>, OutOfMemory>
-        ensures { IfOk result (λ found. found ≡ if_passes (may_begin_by self.now states.now room.now) number (job.now, state.now)) }
+        ensures { IfOk result (λ found. found ≡ if_passes (may_begin_by self.now room.now number) number (job.now, state.now)) }
     {
-        if !self.is_free(states, job, state) {
+        if !self.is_free(number, state) {
             return Ok(None);
         }
         let ask = ask_of(alloc, job)?;
@@ -133,16 +159,16 @@ fn best_of(
     told: &Ground<'_>,
     room: &Room,
     jobs: &[Job],
-    states: &[State],
 ) -> Result<Option<Best>, OutOfMemory>
-    ensures { IfOk result (λ found. found ≡ best_from (may_begin_by told.now states.now room.now) 0 None (zip jobs.now states.now)) }
+    ensures { IfOk result (λ found. found ≡ best_from (may_begin_by told.now room.now) 0 None (zip jobs.now told.now.hands.states.now)) }
 {
+    let states = told.hands.states;
     let mut best = None;
     for (number, job) in jobs.iter().enumerate() {
         let Some(state) = states.get(number) else {
             return Ok(best);
         };
-        let later = told.if_free(alloc, room, states, number, job, state)?;
+        let later = told.if_free(alloc, room, number, job, state)?;
         best = better(best, later);
     }
     Ok(best)
@@ -153,19 +179,12 @@ fn best_of(
 /// they make, and that fit into the room that is left. None where there is no such job. `OutOfMemory` where there is no memory to
 /// tell, or where 32 bits can't tell the number.
 ///
-/// `wholes` tells which of the paths that jobs want are whole now; in the room are the jobs whose child runs. The time is near linear
-/// in the jobs with their inputs.
-pub fn next_job(
-    alloc: Global,
-    live: &LivePlan,
-    wholes: &Wholes,
-    room: &Room,
-) -> Result<Option<u32>, OutOfMemory>
-    ensures { IfOk result (IsNextIn live.now wholes.now room.now) }
+/// In the room are the jobs whose child runs. The time is linear in the jobs with their inputs, by numbers: no path is looked up.
+pub fn next_job(alloc: Global, live: &LivePlan, room: &Room) -> Result<Option<u32>, OutOfMemory>
+    requires { IsLive live.now }
+    ensures { IfOk result (IsNextNow live.now room.now) }
 {
-    let told = ground_of(alloc, live, wholes)?;
-    let jobs = live.jobs().jobs.as_slice();
-    let states = live.as_plan().states.as_slice();
-    let best = best_of(alloc, &told, room, jobs, states)?;
+    let told = ground_of(alloc, live)?;
+    let best = best_of(alloc, &told, room, live.jobs().jobs.as_slice())?;
     Ok(number_of(best))
 }

@@ -1,35 +1,19 @@
 //! Temporary outputs that aren't needed any more.
 
-ghost use Rattle.std.specs.Prelude.{◌≡◌, ◌++◌, ◌||◌, ◌∷◌, [], false, filter, true, zip, IfOk, OnOk, if◌then◌else◌};
-ghost use Rattle.std.specs.BTreeSet.{contains_text};
+ghost use Rattle.std.specs.Prelude.{◌≡◌, ◌++◌, List as Items, [], replicate, slice_set, zip, if◌then◌else◌, false, true, IfOk, OnOk};
 ghost use Rattle.std.specs.List.{list_all, list_any};
-ghost use Rattle.smk_world.specs.Trees.{Path, among};
 ghost use Rattle.smk_trigger.specs.JobStates.{is_clean};
-ghost use Rattle.smk_drive_pick.specs.Spending.{AreSpentIn, has_temps, is_done_with, is_needed_by, is_ripe, needed_told, ripe_in, ripe_of};
-ghost use Rattle.smk_drive_pick.specs.Uses.{AreUsesOf};
+ghost use Rattle.smk_plan_live.specs.Lives.{IsLive};
+ghost use Rattle.smk_drive_pick.specs.Spending.{AreRipeOf, AreSpentNow, has_temps, is_done_with, is_ripe, need_all, need_each, need_of, ripe_in, ripe_by, ripe_of, ripe_paths, with_need};
 
-use crate::folders::awaited_of;
-use crate::origins::origins_of;
+use crate::numbers::has_flag;
 use crate::standing::may_go;
 use smk_base::{List, OutOfMemory, PathText};
-use smk_chain::sets::{put, set_of};
 use smk_flow::Job;
-use smk_plan::Wholes;
 use smk_plan_live::LivePlan;
+use smk_plan_states::{Input, Line, Temp};
 use smk_trigger::State;
-use smk_world::{Item, Out, OutItem};
 use std::alloc::Global;
-use std::collections::BTreeSet;
-
-// What is told of the paths of a plan.
-#[derive(Drop)]
-struct Uses {
-    targets: BTreeSet<String>,
-    // The inputs of jobs that aren't Clean.
-    needed: BTreeSet<String>,
-    // The directories that jobs await.
-    awaited: BTreeSet<String>,
-}
 
 // Whether the state is Clean.
 fn is_clean(state: &State) -> bool
@@ -89,204 +73,177 @@ fn are_done_with(states: &[State]) -> bool
     true
 }
 
-// Adds the paths.
-fn put_paths(
-    alloc: Global,
-    set: &mut BTreeSet<String>,
-    paths: &[PathText],
-) -> Result<(), OutOfMemory>
-    ensures { OnOk result ((q : Path) → contains_text set.new q ≡ (contains_text set.old q || among paths.now q)) }
+// Notes that the path of the link is needed.
+fn need(needed: &mut Vec<bool>, link: Option<usize>)
+    ensures { needed.new.items ≡ with_need needed.old.items link }
 {
-    for path in paths {
-        put(alloc, set, path)?;
+    let Some(number) = link else {
+        return;
+    };
+    if number < needed.len() {
+        needed[number] = true;
     }
-    Ok(())
 }
 
-// Adds the paths of the items.
-fn put_items(alloc: Global, set: &mut BTreeSet<String>, items: &[Item]) -> Result<(), OutOfMemory>
-    ensures { OnOk result ((q : Path) → contains_text set.new q ≡ (contains_text set.old q || list_any (λ item. among item.paths q) items.now)) }
+// Notes that the inputs are needed.
+fn need_each(needed: &mut Vec<bool>, inputs: &[Input])
+    ensures { needed.new.items ≡ need_each needed.old.items inputs.now }
 {
-    for item in items {
-        put_paths(alloc, set, item.paths.as_slice())?;
+    for input in inputs {
+        need(needed, input.link);
     }
-    Ok(())
 }
 
-// Adds the inputs of the job, unless it is Clean.
-fn put_needed(
-    alloc: Global,
-    set: &mut BTreeSet<String>,
-    job: &Job,
-    state: &State,
-) -> Result<(), OutOfMemory>
-    ensures { OnOk result ((q : Path) → contains_text set.new q ≡ (contains_text set.old q || is_needed_by q (job.now, state.now))) }
+// Notes that the inputs of the job are needed, unless it is Clean.
+fn need_of(needed: &mut Vec<bool>, line: &Line, state: &State)
+    ensures { needed.new.items ≡ need_of needed.old.items (line.now, state.now) }
 {
     if is_clean(state) {
-        return Ok(());
+        return;
     }
-    put_items(alloc, set, job.recipe.inputs.as_slice())
+    need_each(needed, line.inputs.as_slice());
 }
 
-// The inputs of the jobs that aren't Clean.
-fn needed_of(alloc: Global, jobs: &[Job], states: &[State]) -> Result<BTreeSet<String>, OutOfMemory>
-    ensures { IfOk result (λ needed. (q : Path) → contains_text needed q ≡ needed_told jobs.now states.now q) }
+// Notes that the inputs of jobs that aren't Clean are needed.
+fn need_all(needed: &mut Vec<bool>, lines: &[Line], states: &[State])
+    ensures { needed.new.items ≡ need_all needed.old.items (zip lines.now states.now) }
 {
-    let mut needed = BTreeSet::new(alloc);
-    for (i, job) in jobs.iter().enumerate() {
+    for (i, line) in lines.iter().enumerate() {
         let Some(state) = states.get(i) else {
-            return Ok(needed);
+            return;
         };
-        put_needed(alloc, &mut needed, job, state)?;
+        need_of(needed, line, state);
     }
+}
+
+// For each of so many makers whether a job that isn't Clean has its path as an input.
+fn needed_of(
+    alloc: Global,
+    makers: usize,
+    lines: &[Line],
+    states: &[State],
+) -> Result<Vec<bool>, OutOfMemory>
+    ensures { IfOk result (λ needed. needed.items ≡ need_all (replicate makers false) (zip lines.now states.now)) }
+{
+    let mut needed = vec![in alloc; false; makers]?;
+    need_all(&mut needed, lines, states);
     Ok(needed)
 }
 
-// What is told of the paths of the plan.
-fn uses_of(alloc: Global, live: &LivePlan, wholes: &Wholes) -> Result<Uses, OutOfMemory>
-    ensures { IfOk result (λ uses. AreUsesOf live.now wholes.now uses) }
+// Whether the output is neither a target nor needed, and may go.
+fn is_ripe(
+    alloc: Global,
+    live: &LivePlan,
+    needed: &[bool],
+    path: &PathText,
+    temp: &Temp,
+) -> Result<bool, OutOfMemory>
+    ensures { IfOk result (λ ripe. ripe ≡ is_ripe live.now needed.now (path.now, temp.now)) }
 {
-    let jobs = live.jobs().jobs.as_slice();
-    let targets = &live.settings().targets;
-    let origins = origins_of(
-        alloc,
-        live.jobs().makers.as_slice(),
-        wholes.makers.as_slice(),
-    )?;
-    let awaited = awaited_of(alloc, &origins, jobs, targets)?;
-    let needed = needed_of(alloc, jobs, live.as_plan().states.as_slice())?;
-    let targets = set_of(alloc, targets.as_slice())?;
-    Ok(Uses {
-        targets,
-        needed,
-        awaited,
-    })
+    if temp.target {
+        return Ok(false);
+    }
+    if has_flag(needed, temp.link) {
+        return Ok(false);
+    }
+    may_go(alloc, live, path)
 }
 
-// Whether one of these outputs is an awaited directory.
-fn any_awaited(awaited: &BTreeSet<String>, outs: &[Out]) -> bool
-    ensures { result ≡ list_any (λ o. contains_text awaited.now o.path) outs.now }
+// Adds the output, where it is so.
+fn push(
+    alloc: Global,
+    live: &LivePlan,
+    needed: &[bool],
+    path: &PathText,
+    temp: &Temp,
+    found: &mut List<PathText>,
+) -> Result<(), OutOfMemory>
+    ensures { OnOk result (found.new ≡ found.old ++ ripe_of live.now needed.now (path.now, temp.now)) }
 {
-    for out in outs {
-        if awaited.contains(out.path.as_str()) {
-            return true;
-        }
+    if !is_ripe(alloc, live, needed, path, temp)? {
+        return Ok(());
     }
-    false
+    let copy = path.copy(alloc)?;
+    found.push(copy)
 }
 
-// Whether one of the job's outputs is.
-fn makes_awaited(awaited: &BTreeSet<String>, items: &[OutItem]) -> bool
-    ensures { result ≡ list_any (λ item. list_any (λ o. contains_text awaited.now o.path) item.outs) items.now }
+// Adds those of the temporary outputs of a job.
+fn push_paths(
+    alloc: Global,
+    live: &LivePlan,
+    needed: &[bool],
+    paths: &[PathText],
+    temps: &[Temp],
+    found: &mut List<PathText>,
+) -> Result<(), OutOfMemory>
+    ensures { OnOk result (found.new ≡ found.old ++ ripe_paths live.now needed.now (zip paths.now temps.now)) }
 {
-    for item in items {
-        if any_awaited(awaited, item.outs.as_slice()) {
-            return true;
-        }
+    for (i, path) in paths.iter().enumerate() {
+        let Some(temp) = temps.get(i) else {
+            return Ok(());
+        };
+        push(alloc, live, needed, path, temp, found)?;
     }
-    false
+    Ok(())
 }
 
-impl Uses {
-    // Whether nobody needs the output any more, and it may go.
-    fn is_ripe(&self, alloc: Global, live: &LivePlan, path: &PathText) -> Result<bool, OutOfMemory>
-        ensures { IfOk result (λ ripe. ripe ≡ is_ripe live.now (λ q. contains_text self.now.targets q) (λ q. contains_text self.now.needed q) path.now) }
-    {
-        if self.targets.contains(path.as_str()) {
-            return Ok(false);
-        }
-        if self.needed.contains(path.as_str()) {
-            return Ok(false);
-        }
-        may_go(alloc, live, path)
+// Adds those of the job, where it is Clean and makes no awaited directory.
+fn push_job(
+    alloc: Global,
+    live: &LivePlan,
+    needed: &[bool],
+    job: &Job,
+    line: &Line,
+    state: &State,
+    found: &mut List<PathText>,
+) -> Result<(), OutOfMemory>
+    ensures { OnOk result (found.new ≡ found.old ++ ripe_by live.now needed.now (job.now, (line.now, state.now))) }
+{
+    if !is_clean(state) {
+        return Ok(());
     }
+    if line.feeds {
+        return Ok(());
+    }
+    let paths = job.temps.as_slice();
+    let temps = line.temps.as_slice();
+    push_paths(alloc, live, needed, paths, temps, found)
+}
 
-    // Adds the output, where nobody needs it any more and it may go.
-    fn push(
-        &self,
-        alloc: Global,
-        live: &LivePlan,
-        path: &PathText,
-        found: &mut List<PathText>,
-    ) -> Result<(), OutOfMemory>
-        ensures { OnOk result (found.new ≡ found.old
-            ++ (if is_ripe live.now (λ q. contains_text self.now.targets q) (λ q. contains_text self.now.needed q) path.now then path.now ∷ [] else [])) }
-    {
-        if !self.is_ripe(alloc, live, path)? {
-            return Ok(());
-        }
-        let copy = path.copy(alloc)?;
-        found.push(copy)
+// The temporary outputs of the jobs that nobody needs any more and that may go.
+fn ripe_in(
+    alloc: Global,
+    live: &LivePlan,
+    needed: &[bool],
+    jobs: &[Job],
+    lines: &[Line],
+    states: &[State],
+) -> Result<List<PathText>, OutOfMemory>
+    ensures { IfOk result (λ found. found ≡ ripe_in live.now needed.now (zip jobs.now (zip lines.now states.now))) }
+{
+    let mut found = List::new(alloc);
+    for (i, job) in jobs.iter().enumerate() {
+        let Some(line) = lines.get(i) else {
+            return Ok(found);
+        };
+        let Some(state) = states.get(i) else {
+            return Ok(found);
+        };
+        push_job(alloc, live, needed, job, line, state, &mut found)?;
     }
-
-    // Adds those of the outputs.
-    fn push_paths(
-        &self,
-        alloc: Global,
-        live: &LivePlan,
-        paths: &[PathText],
-        found: &mut List<PathText>,
-    ) -> Result<(), OutOfMemory>
-        ensures { OnOk result (found.new ≡ found.old
-            ++ filter (is_ripe live.now (λ q. contains_text self.now.targets q) (λ q. contains_text self.now.needed q)) paths.now) }
-    {
-        for path in paths {
-            self.push(alloc, live, path, found)?;
-        }
-        Ok(())
-    }
-
-    // Adds those of the job's temporary outputs.
-    fn push_job(
-        &self,
-        alloc: Global,
-        live: &LivePlan,
-        job: &Job,
-        state: &State,
-        found: &mut List<PathText>,
-    ) -> Result<(), OutOfMemory>
-        ensures { OnOk result (found.new ≡ found.old ++ ripe_of (λ q. contains_text self.now.awaited q)
-            (is_ripe live.now (λ q. contains_text self.now.targets q) (λ q. contains_text self.now.needed q)) (job.now, state.now)) }
-    {
-        if !is_clean(state) {
-            return Ok(());
-        }
-        if makes_awaited(&self.awaited, job.recipe.outputs.as_slice()) {
-            return Ok(());
-        }
-        self.push_paths(alloc, live, job.temps.as_slice(), found)
-    }
-
-    // The temporary outputs of the jobs that nobody needs any more and that may go.
-    fn ripe_in(
-        &self,
-        alloc: Global,
-        live: &LivePlan,
-        jobs: &[Job],
-        states: &[State],
-    ) -> Result<List<PathText>, OutOfMemory>
-        ensures { IfOk result (λ found. found ≡ ripe_in (λ q. contains_text self.now.awaited q)
-            (is_ripe live.now (λ q. contains_text self.now.targets q) (λ q. contains_text self.now.needed q)) (zip jobs.now states.now)) }
-    {
-        let mut found = List::new(alloc);
-        for (i, job) in jobs.iter().enumerate() {
-            let Some(state) = states.get(i) else {
-                return Ok(found);
-            };
-            self.push_job(alloc, live, job, state, &mut found)?;
-        }
-        Ok(found)
-    }
+    Ok(found)
 }
 
 // Those that are spent, where nothing keeps all of them.
-fn ripe_now(alloc: Global, live: &LivePlan, wholes: &Wholes) -> Result<List<PathText>, OutOfMemory>
-    ensures { IfOk result (λ found. list_all is_done_with live.now.plan.states ≡ true → live.now.held ≡ false → AreSpentIn live.now wholes.now found) }
+fn ripe_now(alloc: Global, live: &LivePlan) -> Result<List<PathText>, OutOfMemory>
+    ensures { IfOk result (AreRipeOf live.now) }
 {
-    let uses = uses_of(alloc, live, wholes)?;
+    let table = live.table();
     let jobs = live.jobs().jobs.as_slice();
+    let lines = table.lines();
     let states = live.as_plan().states.as_slice();
-    let found = uses.ripe_in(alloc, live, jobs, states)?;
+    let needed = needed_of(alloc, table.origins().len(), lines, states)?;
+    let found = ripe_in(alloc, live, needed.as_slice(), jobs, lines, states)?;
     Ok(found)
 }
 
@@ -295,14 +252,11 @@ fn ripe_now(alloc: Global, live: &LivePlan, wholes: &Wholes) -> Result<List<Path
 /// a job that makes a directory which a job awaits. They may go where something was seen: a file, or a directory in which nothing
 /// stands but what its record lists. `OutOfMemory` where there is no memory for the answer.
 ///
-/// `wholes` tells which of the paths that jobs want are whole now. The time is near linear in the jobs with what they read and make,
-/// and that of a look at each job where no output is temporary.
-pub fn spent_paths(
-    alloc: Global,
-    live: &LivePlan,
-    wholes: &Wholes,
-) -> Result<List<PathText>, OutOfMemory>
-    ensures { IfOk result (AreSpentIn live.now wholes.now) }
+/// The time is linear in the jobs with what they read and make, by numbers, and that of a look at each job where no output is temporary; paths are looked up only
+/// of outputs that nobody needs any more.
+pub fn spent_paths(alloc: Global, live: &LivePlan) -> Result<List<PathText>, OutOfMemory>
+    requires { IsLive live.now }
+    ensures { IfOk result (AreSpentNow live.now) }
 {
     if !any_temporary(live.jobs().jobs.as_slice()) {
         return Ok(List::new(alloc));
@@ -313,6 +267,6 @@ pub fn spent_paths(
     if !are_done_with(live.as_plan().states.as_slice()) {
         return Ok(List::new(alloc));
     }
-    let found = ripe_now(alloc, live, wholes)?;
+    let found = ripe_now(alloc, live)?;
     Ok(found)
 }

@@ -1,16 +1,11 @@
 -- The job that is next, by what the code answers.
-use Rattle.std.proofs.Common.{◌≡◌, ◌⊎◌, inl, inr, ℕ, Bool, true, false, ◌&&◌, map, refl, sym, subst, ◌∙◌, Option, Some, None, true≢false}
+use Rattle.std.proofs.Common.{◌≡◌, ◌⊎◌, inl, inr, ℕ, Bool, true, false, ◌&&◌, refl, sym, ◌∙◌, Option, Some, None, true≢false}
 use Rattle.std.specs.Prelude.{is_none}
 use Rattle.std.proofs.lemmas.Option.{none-some}
-use Rattle.smk_world.specs.Trees.{Each}
 use Rattle.smk_pick.specs.declared.settings.Settings.{Settings}
 use Rattle.smk_plan.specs.declared.wholes.Wholes.{Wholes}
 use Rattle.smk_report.specs.declared.fault.Fault.{Fault}
-use Rattle.smk_chain.specs.declared.jobs.Jobs.{Jobs}
-use Rattle.smk_plan_facts.specs.Telling.{IsSorted, directories_of, wholes_in}
-use Rattle.smk_plan_live.specs.declared.base.Base.{Base}
 use Rattle.smk_plan_live.specs.Lives.{AreWhole}
-use Rattle.smk_plan_live.specs.Now.{known_now, seen_now}
 use Rattle.smk_drive_pick.specs.Picking.{IsNextIn}
 use Rattle.smk_laws_turns.specs.Hubs.{Parts}
 use Rattle.smk_laws_begins.specs.Standing.{IsHalted, IsIdle, IsOver, IsStopped, may_go_on}
@@ -19,21 +14,6 @@ use Rattle.smk_drive_run.specs.LoopKeeping.{IsNextOf, MayNext}
 pub next_by : (h : Parts) (wholes : Wholes) (o : Option ℕ) → AreWhole h.live.base wholes → IsNextIn h.live wholes h.room o → IsNextOf h o
 next_by h wholes None whole next = record { wholes = wholes; whole = whole; next = next }
 next_by h wholes (Some n) whole next = record { wholes = wholes; whole = whole; next = next }
-
--- what is whole, by the plan that is told of
-pub whole_by :
-    (b base : Base) (js : Jobs) (wholes : Wholes) →
-    b ≡ base →
-    js ≡ base.jobs →
-    (Each (Each (IsSorted (seen_now b))) (map (directories_of (known_now b) (seen_now b)) js.jobs) → wholes ≡ wholes_in (known_now b) (seen_now b) js) →
-    AreWhole base wholes
-whole_by b base js wholes same jobs whole =
-    subst
-    (λ (x : Jobs). Each (Each (IsSorted (seen_now base))) (map (directories_of (known_now base) (seen_now base)) x.jobs) → wholes
-    ≡ wholes_in (known_now base) (seen_now base) x) jobs
-    (subst
-    (λ (x : Base). Each (Each (IsSorted (seen_now x))) (map (directories_of (known_now x) (seen_now x)) js.jobs) → wholes
-    ≡ wholes_in (known_now x) (seen_now x) js) same whole)
 
 not_both : (f : Option Fault) (on : Bool) → (is_none f && on) ≡ false → (f ≡ None → ⊥) ⊎ (on ≡ false)
 not_both None on test = inr test

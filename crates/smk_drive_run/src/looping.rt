@@ -2,6 +2,7 @@
 
 ghost use Rattle.std.specs.Prelude.{◌≡◌, ◌≢◌, ◌⊎◌, ◌<◌, ◌&&◌, false, true, not, is_none, Some, None, IfOk};
 ghost use Rattle.std.specs.List.{list_all};
+ghost use Rattle.smk_plan_live.specs.Lives.{IsLive};
 ghost use Rattle.smk_report.specs.declared.fault.Fault.TheVariants as fault;
 ghost use Rattle.smk_drive_step.specs.declared.children.Child.{Child as ChildValue};
 ghost use Rattle.smk_laws_turns.specs.Turning.{faulted};
@@ -21,7 +22,6 @@ use smk_drive_close::wait;
 use smk_drive_hub::{Ground, Hub};
 use smk_drive_pick::next_job;
 use smk_pick::Settings;
-use smk_plan_facts::wholes_told;
 use smk_report::Fault;
 use smk_world::{Crew, Sink};
 use std::alloc::Global;
@@ -32,10 +32,10 @@ const MOST_STEPS: u64 = 4611686018427387904;
 
 // The job that begins next, if any may. `OutOfMemory` where there is no memory to tell it.
 fn next_of(alloc: Global, hub: &Hub) -> Result<Option<u32>, OutOfMemory>
+    requires { IsLive hub.now.live }
     ensures { IfOk result (IsNextOf (parts_of hub.now)) }
 {
-    let wholes = wholes_told(alloc, hub.live.jobs(), hub.live.told())?;
-    let next = next_job(alloc, &hub.live, &wholes, &hub.room)?;
+    let next = next_job(alloc, &hub.live, &hub.room)?;
     Ok(next)
 }
 
@@ -48,6 +48,7 @@ fn begins(settings: &Settings, hub: &Hub) -> bool
 
 // The job that begins next, if one does. Want of memory is a fault, after which none does.
 fn next(alloc: Global, settings: &Settings, hub: &mut Hub) -> Option<u32>
+    requires { IsLive hub.old.live }
     ensures held { (parts_of hub.new ≡ parts_of hub.old) ⊎ (parts_of hub.new ≡ faulted fault.OutOfMemory (parts_of hub.old)) }
     ensures may { MayNext settings.now (parts_of hub.new) result }
 {

@@ -24,7 +24,7 @@ use Rattle.smk_plan_live.specs.Lives.{IsSound, progress_of}
 use Rattle.smk_plan_live.specs.Now.{joined}
 use Rattle.smk_plan_live.specs.Phases.{begun_in, children_in, has_begun, running_in}
 use Rattle.smk_plan_live.proofs.Changed.{begun_here}
-use Rattle.smk_plan_live.proofs.Installed.{mapped_at}
+use Rattle.smk_plan_live.proofs.Putting.{mapped_at}
 use Rattle.smk_plan_live.proofs.Restoring.{kept_at, named_later, one_name}
 use Rattle.smk_laws_plan.proofs.CurrentLists.{get_in}
 use Rattle.smk_laws_history.proofs.CurrentComplete.{seen_is_complete}

@@ -28,7 +28,7 @@ use Rattle.smk_plan_live.specs.Lives.{IsSound}
 use Rattle.smk_plan_live.specs.Now.{entry_now, joined, own_sight, restored_now, restores_at, row_at, row_by, seen_before, sight_now}
 use Rattle.smk_plan_live.specs.Same.{paths_in}
 use Rattle.smk_plan_live.specs.Sites.{site_in, site_outs}
-use Rattle.smk_plan_live.proofs.Installed.{mapped_at}
+use Rattle.smk_plan_live.proofs.Putting.{mapped_at}
 use Rattle.smk_plan_live.proofs.Restoring.{one_job, outs_are, site_found}
 use Rattle.smk_laws_plan.proofs.CurrentLists.{get_in}
 use Rattle.smk_laws_turns.proofs.Carrying.{by_test}

@@ -39,7 +39,7 @@ use Rattle.smk_plan_live.specs.Sites.{site_in}
 use Rattle.smk_plan_live.specs.Steps.{AreOfOutputs}
 use Rattle.smk_plan_live.proofs.Changed.{filled_sound, get_other, turned_sound}
 use Rattle.smk_plan_live.proofs.Effects.{begun_tells, closed_tells, restored_tells, spent_tells}
-use Rattle.smk_plan_live.proofs.Installed.{mapped_at}
+use Rattle.smk_plan_live.proofs.Putting.{mapped_at}
 use Rattle.smk_plan_live.proofs.Restoring.{one_job, outs_are, site_found, site_has}
 use Rattle.smk_drive_outcome.specs.Outcomes.{unmarked_entry}
 use Rattle.smk_laws_turns.specs.Agreeing.{BeginAgrees, CloseAgrees, SpendAgrees}

@@ -5,5 +5,7 @@ pub mod Entries
 pub mod Stamped
 pub mod FactsTold
 pub mod Members
+mod Sorted
 pub mod WholesTold
+pub mod Stays
 pub mod Reasoned

@@ -179,11 +179,11 @@ map_items : {B : Type 0} (f : Out → B) (items : List OutItem) → flat_map (λ
 map_items f [] = refl
 map_items f (item ∷ items) = ap (λ zs. map f item.outs ++ zs) (map_items f items) ∙ sym (map-append f item.outs (flat_map (λ (i : OutItem). i.outs) items))
 
-directories_are : (store : List Known) (sights : List Sight) (j : Job) → directories_of store sights j ≡ map (directory_in store sights) (folders_of j.recipe)
+pub directories_are : (store : List Known) (sights : List Sight) (j : Job) → directories_of store sights j ≡ map (directory_in store sights) (folders_of j.recipe)
 directories_are store sights j = flat_items (directory_at store sights) j.recipe.outputs ∙ directories_by store sights (outs_of j.recipe)
 
 -- what holds of each output holds of each directory
-each_filtered : {A : Type 0} (P : A → Type 0) (test : A → Bool) (xs : List A) → Each P xs → Each P (filter test xs)
+pub each_filtered : {A : Type 0} (P : A → Type 0) (test : A → Bool) (xs : List A) → Each P xs → Each P (filter test xs)
 each_filtered P test [] h = tt
 each_filtered P test (x ∷ xs) h = go (test x) (each_filtered P test xs h.1)
   where
@@ -255,7 +255,7 @@ module _ (image : Image) (store : List Known) (sights : List Sight) (is : IsStor
 
 -- ## Makers
 
-nth_map : {B : Type 0} (f : Job → B) (js : List Job) (n : ℕ) → nth (map f js) n ≡ option_map f (job_at js n)
+pub nth_map : {B : Type 0} (f : Job → B) (js : List Job) (n : ℕ) → nth (map f js) n ≡ option_map f (job_at js n)
 nth_map f [] n = refl
 nth_map f (j ∷ js) zero = refl
 nth_map f (j ∷ js) (suc n) = nth_map f js n

@@ -1,5 +1,5 @@
 -- What a store and sights tell of jobs, with no word of an image: stamps, facts, what forces a job, and what is whole.
-use Rattle.std.specs.Prelude.{◌≡◌, ℕ, zero, suc, Bool, true, false, ◌&&◌, ◌||◌, not, List, [], ◌∷◌, map, bytes_eq, if◌then◌else◌, Option, Some, None, is_some}
+use Rattle.std.specs.Prelude.{◌≡◌, ℕ, zero, suc, ◌==◌, Bool, true, false, ◌&&◌, ◌||◌, not, List, [], ◌∷◌, map, bytes_eq, if◌then◌else◌, Option, Some, None, is_some}
 use Rattle.std.specs.List.{list_any, list_all, find, flat_map}
 use Rattle.std.specs.Option.{option_and_then, option_or}
 use Rattle.std.specs.BTreeSet.{contains_text}
@@ -222,6 +222,13 @@ members_at sights p = or_no_members (option_and_then (λ (s : Sight). s.members)
 abbrev pub IsSorted : List Sight → Directory → Type 0
 IsSorted sights d = d.whole ≡ true → are_rising (member_names (members_at sights d.path)) ≡ true
 
+-- a test for that
+abbrev pub is_sorted_in : List Sight → Directory → Bool
+is_sorted_in sights d = not d.whole || are_rising (member_names (members_at sights d.path))
+
+abbrev pub are_sorted_in : List Sight → List Directory → Bool
+are_sorted_in sights directories = list_all (is_sorted_in sights) directories
+
 -- the directory is whole, and the path is a file in it
 abbrev pub is_member_in : List Sight → Path → Directory → Bool
 is_member_in sights q d = d.whole && is_file_member (members_at sights d.path) (below d.path q)
@@ -261,3 +268,23 @@ wholes_in store sights jobs =
       outputs = map (outputs_in store sights) jobs.jobs;
       makers = map (is_told_whole sights (map (directories_of store sights) jobs.jobs)) jobs.makers;
     }
+
+-- ## Flags that are told anew
+
+abbrev pub is_number : ℕ → Option ℕ → Bool
+is_number n None = false
+is_number n (Some k) = k == n
+
+-- for each maker its flag: a fresh one where it is the job of the number n that is told to make the path, and else the one that was there
+abbrev pub flags_but : (Maker → Bool) → ℕ → List Maker → List Bool → List Bool
+flags_but fresh n [] flags = []
+flags_but fresh n (m ∷ makers) [] = []
+flags_but fresh n (m ∷ makers) (b ∷ flags) = (if is_number n m.job then fresh m else b) ∷ flags_but fresh n makers flags
+
+-- the maker's path is whole, as what this job makes there
+abbrev pub is_made_of : List Known → List Sight → Job → Maker → Bool
+is_made_of store sights j m = is_made_in sights m.path (directories_of store sights j)
+
+-- which paths that are told of are whole
+abbrev pub makers_in : List Known → List Sight → Jobs → List Bool
+makers_in store sights jobs = map (is_told_whole sights (map (directories_of store sights) jobs.jobs)) jobs.makers

@@ -5,13 +5,16 @@ ghost use Rattle.smk_plan_facts.specs.Laws.{FactsAreSo, FactsGiveReasons, Wholes
 
 mod copies;
 mod directories;
+mod flags;
 mod forced;
 mod judged;
 mod known;
+mod rising;
 mod stamps;
 mod whole;
 
 pub use copies::{kept_again, members_again};
+pub use flags::{all_outputs_told, makers_again, makers_told, outputs_told};
 pub use judged::{facts, facts_told, forced_of, own_facts};
 pub use stamps::{sources_of, stamp_now};
 pub use whole::{wholes, wholes_told};

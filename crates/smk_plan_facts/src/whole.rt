@@ -9,11 +9,12 @@ ghost use Rattle.smk_store.specs.Images.{Image};
 ghost use Rattle.smk_store.specs.Loading.{IsStoreOf};
 ghost use Rattle.smk_plan.specs.Sights.{IsSeenOf, wholes_of};
 ghost use Rattle.smk_plan_facts.specs.Facts.{AreMade, HasOwnRecords, NamesAll};
-ghost use Rattle.smk_plan_facts.specs.Telling.{directories_of, is_file_member, is_made_in, is_member_in, is_output_in, is_plain_in, is_told_whole, member_names, members_at, outputs_in, wholes_in, IsSorted};
+ghost use Rattle.smk_plan_facts.specs.Telling.{directories_of, is_file_member, is_made_in, is_member_in, is_output_in, is_plain_in, member_names, members_at, outputs_in, wholes_in, IsSorted};
 
-use crate::directories::{Directory, directories_in, is_file, whole_in};
+use crate::directories::{Directory, is_file, whole_in};
+use crate::flags::makers_told;
 use smk_base::{List, OutOfMemory, PathText};
-use smk_chain::{Jobs, Maker};
+use smk_chain::Jobs;
 use smk_flow::Job;
 use smk_plan::{Loaded, Seen, Told, Wholes};
 use smk_record::Member;
@@ -38,8 +39,8 @@ fn member_named<'m>(members: &'m [Member], name: &[u8]) -> Option<&'m Member>
     }
 }
 
-// Whether a file of this name is among the members.
-fn has_file(members: &[Member], name: &[u8]) -> bool
+// Whether a file of this name is among the members, which rise.
+fn has_file_in_order(members: &[Member], name: &[u8]) -> bool
     ensures { are_rising (member_names members.now) ≡ true → result ≡ is_file_member members.now name.now }
 {
     match member_named(members, name) {
@@ -48,25 +49,54 @@ fn has_file(members: &[Member], name: &[u8]) -> bool
     }
 }
 
+// Whether a file of this name is among the members, in whatever order they are.
+fn has_file_anywhere(members: &[Member], name: &[u8]) -> bool
+    ensures { result ≡ is_file_member members.now name.now }
+{
+    for member in members {
+        if member.name.as_str().as_bytes() == name {
+            return !member.folder;
+        }
+    }
+    false
+}
+
+// Whether a file of this name is among the members, which rise where they are sorted.
+fn has_file(members: &[Member], name: &[u8], sorted: bool) -> bool
+    ensures { (sorted ≡ true → are_rising (member_names members.now) ≡ true) → result ≡ is_file_member members.now name.now }
+{
+    if !sorted {
+        return has_file_anywhere(members, name);
+    }
+    has_file_in_order(members, name)
+}
+
 // Whether a file of this name is among the members that were seen at the folder.
-fn has_file_at<T: Told>(told: &T, folder: &PathText, name: &[u8]) -> bool
-    ensures { are_rising (member_names (members_at (T.seen told.now) folder.now)) ≡ true → result ≡ is_file_member (members_at (T.seen told.now) folder.now) name.now }
+fn has_file_at<T: Told>(told: &T, folder: &PathText, name: &[u8], sorted: bool) -> bool
+    ensures { (sorted ≡ true → are_rising (member_names (members_at (T.seen told.now) folder.now)) ≡ true)
+        → result ≡ is_file_member (members_at (T.seen told.now) folder.now) name.now }
 {
     match told.sight(folder) {
         None => false,
         Some(sight) => match &sight.members {
             None => false,
-            Some(members) => has_file(members.as_slice(), name),
+            Some(members) => has_file(members.as_slice(), name, sorted),
         },
     }
 }
 
 // Whether the directory is whole and has the path as a file.
-fn is_member<T: Told>(told: &T, path: &PathText, directory: &Directory) -> bool
+fn is_member<T: Told>(told: &T, path: &PathText, directory: &Directory, sorted: bool) -> bool
     requires { is_under path.now directory.now.path ≡ true }
-    ensures { IsSorted (T.seen told.now) directory.now → result ≡ is_member_in (T.seen told.now) path.now directory.now }
+    ensures { (sorted ≡ true → IsSorted (T.seen told.now) directory.now) → result ≡ is_member_in (T.seen told.now) path.now directory.now }
 {
-    directory.whole && has_file_at(told, &directory.path, name_in(path, &directory.path))
+    directory.whole
+        && has_file_at(
+            told,
+            &directory.path,
+            name_in(path, &directory.path),
+            sorted,
+        )
 }
 
 // The directory over the path.
@@ -113,43 +143,19 @@ fn is_output<T: Told>(told: &T, path: &PathText, directory: Option<&Directory>) 
     }
 }
 
-// Whether the path is whole, as what a job with these directories makes there.
-fn is_made<T: Told>(told: &T, directories: &[Directory], path: &PathText) -> bool
-    ensures { Each (IsSorted (T.seen told.now)) directories.now → result ≡ is_made_in (T.seen told.now) path.now directories.now }
+/// Whether the path is whole, as what a job with these directories makes there. Where they are sorted, the members of each that is whole rise by name.
+pub(crate) fn is_made<T: Told>(
+    told: &T,
+    directories: &[Directory],
+    path: &PathText,
+    sorted: bool,
+) -> bool
+    ensures { (sorted ≡ true → Each (IsSorted (T.seen told.now)) directories.now) → result ≡ is_made_in (T.seen told.now) path.now directories.now }
 {
     match directory_over(directories, path) {
         None => is_output(told, path, directory_at(directories, path)),
-        Some(directory) => is_member(told, path, directory),
+        Some(directory) => is_member(told, path, directory, sorted),
     }
-}
-
-// Whether what the maker tells of is whole, where these are the directories of the jobs.
-fn is_told_whole<T: Told>(told: &T, directories: &[List<Directory>], maker: &Maker) -> bool
-    ensures { Each (Each (IsSorted (T.seen told.now))) directories.now → result ≡ is_told_whole (T.seen told.now) directories.now maker.now }
-{
-    match maker.job {
-        None => false,
-        Some(number) => match directories.get(number as usize) {
-            None => false,
-            Some(own) => is_made(told, own.as_slice(), &maker.path),
-        },
-    }
-}
-
-// Which of the paths that are told of are whole.
-fn makers_whole<T: Told>(
-    alloc: Global,
-    told: &T,
-    directories: &[List<Directory>],
-    makers: &[Maker],
-) -> Result<List<bool>, OutOfMemory>
-    ensures { IfOk result (λ flags. Each (Each (IsSorted (T.seen told.now))) directories.now → flags ≡ map (is_told_whole (T.seen told.now) directories.now) makers.now) }
-{
-    let mut flags = List::new(alloc);
-    for maker in makers {
-        flags.push(is_told_whole(told, directories, maker))?;
-    }
-    Ok(flags)
 }
 
 // Which outputs of each job are whole.
@@ -167,21 +173,6 @@ fn outputs_whole<T: Told>(
     Ok(flags)
 }
 
-// The directories of each job.
-fn all_directories<T: Told>(
-    alloc: Global,
-    told: &T,
-    jobs: &[Job],
-) -> Result<List<List<Directory>>, OutOfMemory>
-    ensures { IfOk result (λ found. found ≡ map (directories_of (T.known told.now) (T.seen told.now)) jobs.now) }
-{
-    let mut found = List::new(alloc);
-    for job in jobs {
-        found.push(directories_in(alloc, told, job.recipe.outputs.as_slice())?)?;
-    }
-    Ok(found)
-}
-
 /// Which outputs of the jobs are whole, and which of the paths that their makers tell of, by what is known and was seen. `OutOfMemory` where there is no memory
 /// for the answer.
 ///
@@ -190,9 +181,8 @@ pub fn wholes_told<T: Told>(alloc: Global, jobs: &Jobs, told: &T) -> Result<Whol
     ensures { IfOk result (λ found. Each (Each (IsSorted (T.seen told.now))) (map (directories_of (T.known told.now) (T.seen told.now)) jobs.now.jobs)
         → found ≡ wholes_in (T.known told.now) (T.seen told.now) jobs.now) }
 {
-    let directories = all_directories(alloc, told, jobs.jobs.as_slice())?;
     let outputs = outputs_whole(alloc, told, jobs.jobs.as_slice())?;
-    let makers = makers_whole(alloc, told, directories.as_slice(), jobs.makers.as_slice())?;
+    let makers = makers_told(alloc, told, jobs)?;
     Ok(Wholes { outputs, makers })
 }
 

@@ -3,7 +3,6 @@ use Rattle.std.proofs.Common.{◌≡◌, ℕ, zero, suc, Bool, true, false, ◌&
 use Rattle.std.specs.Prelude.{if◌then◌else◌, slice_set, slice_index_or}
 use Rattle.std.specs.List.{list_any, slice_get}
 use Rattle.std.specs.BTreeMap.{get_by_text}
-use Rattle.std.specs.BTreeSet.{contains_text}
 use Rattle.std.proofs.Math.Nat.{zero-add}
 use Rattle.smk_base.proofs.Under.{never_both, false_unless}
 use Rattle.smk_world.specs.World.{out_paths}
@@ -12,15 +11,10 @@ use Rattle.smk_pattern.specs.Reading.{or_empty}
 use Rattle.smk_flow.specs.declared.job.Job.{Job}
 use Rattle.smk_store.specs.declared.store.Entry.{Entry}
 use Rattle.smk_store.specs.Stores.{Known, entry_of}
-use Rattle.smk_trigger.specs.declared.facts.JobFacts.{JobFacts}
 use Rattle.smk_trigger.specs.declared.reason.State.{State}
 use Rattle.smk_trigger.specs.JobStates.{is_restore}
-use Rattle.smk_pick.specs.declared.settings.Settings.{Settings}
 use Rattle.smk_plan.specs.declared.seen.Sight.{Sight}
-use Rattle.smk_plan.specs.States.{job_path, by_force, makes, test_some}
-use Rattle.smk_plan_facts.specs.Facts.{told_sources}
-use Rattle.smk_plan_facts.specs.Telling.{forced_by}
-use Rattle.smk_plan_states.specs.Served.{AreServed}
+use Rattle.smk_plan.specs.States.{job_path, test_some}
 use Rattle.smk_plan_states.proofs.Tests.{among_append}
 use Rattle.smk_plan_live.specs.declared.base.Base.{Base}
 use Rattle.smk_plan_live.specs.declared.sites.Site.{Site}
@@ -28,13 +22,11 @@ use Rattle.smk_plan_live.specs.declared.phase.Phase.{Phase}
 use Rattle.smk_plan_live.specs.declared.phase.Phase.TheVariants.{Running, Closed}
 use Rattle.smk_plan_live.specs.Phases.{has_begun, begun_in}
 use Rattle.smk_plan_live.specs.Now.{joined, row_by, row_at, own_sight, seen_before, restores_at, settled, known_now, seen_now}
-use Rattle.smk_plan_live.specs.Same.{AreSameBut, merged, renewed_from, renewed}
-use Rattle.smk_plan_live.specs.Lives.{IsSound, facts_now}
-use Rattle.smk_plan_live.specs.Carried.{has_name, turned, filled, advanced, sighted}
-use Rattle.smk_plan_live.specs.Steps.{renewed_at}
-use Rattle.smk_plan_live.proofs.Same.{renewed_are}
+use Rattle.smk_plan_live.specs.Same.{AreSameBut}
+use Rattle.smk_plan_live.specs.Lives.{IsSound}
+use Rattle.smk_plan_live.specs.Carried.{turned, filled, sighted}
 use Rattle.smk_plan_live.proofs.Tables.{same_bytes, known_is, seen_is}
-use Rattle.smk_plan_live.proofs.Restoring.{at_same, outs_are, site_has, one_name}
+use Rattle.smk_plan_live.proofs.Restoring.{outs_are, site_has}
 
 -- ## Lists whose elements are replaced
 
@@ -222,74 +214,13 @@ begun_here (k ∷ jobs) (p ∷ phases) (suc n) j phase at here begun =
     or_last true b h = refl
     or_last false b h = h
 
-set_here : {A : Type 0} (xs : List A) (n : ℕ) (x y : A) → slice_get xs n ≡ Some y → slice_get (slice_set xs n x) n ≡ Some x
+pub set_here : {A : Type 0} (xs : List A) (n : ℕ) (x y : A) → slice_get xs n ≡ Some y → slice_get (slice_set xs n x) n ≡ Some x
 set_here [] n x y e = absurd cc
 set_here (z ∷ xs) zero x y e = refl
 set_here (z ∷ xs) (suc n) x y e = set_here xs n x y e
 
--- ## The facts of jobs
+-- ## Names
 
-named_in : (ps : List Path) → is_some (first ps) ≡ true → among ps (or_empty (first ps)) ≡ true
+pub named_in : (ps : List Path) → is_some (first ps) ≡ true → among ps (or_empty (first ps)) ≡ true
 named_in [] h = absurd (never_both false h refl)
 named_in (p ∷ ps) h = ap (λ b. b || among ps p) (same_bytes p)
-
-module _
-    (settings : Settings) (b : Base) (sound : IsSound b) (n : ℕ) (j : Job) (at : slice_get b.jobs.jobs n ≡ Some j) (facts : List JobFacts)
-    (served : AreServed b.jobs settings.targets) (were : facts ≡ facts_now settings b) where
-  abbrev told : Path → Bool
-  told = among (told_sources b.jobs.makers)
-
-  -- by the set of sources that is kept
-  by_set :
-      (flag : Bool) (known : List Known) (seen : List Sight) →
-      merged facts (renewed_from known seen (contains_text b.sources) flag (outs_of j.recipe) n 0 b.jobs.jobs facts)
-      ≡ renewed known seen told flag (outs_of j.recipe) n b.jobs.jobs facts
-  by_set flag known seen = λ i. merged facts (renewed_from known seen (λ q. sound.sources q i) flag (outs_of j.recipe) n 0 b.jobs.jobs facts)
-
-  not_forced : (ran : List Path) → among ran (job_path j) ≡ true → forced_by settings ran j ≡ false
-  not_forced ran h = ap (λ x. not x && by_force settings.force (list_any (makes j) settings.targets)) h
-
-  -- once the job has begun
-  pub begun_facts :
-      has_name j ≡ true → (before : Phase) → slice_get b.phases n ≡ Some before → (state : State) (row : List (Option Entry)) (sights : List (Option Sight)) →
-      merged facts (renewed_at (advanced n Running (Some state) row sights b) n false j facts)
-      ≡ facts_now settings (advanced n Running (Some state) row sights b)
-  begun_facts named before was state row sights =
-      let new : Base = advanced n Running (Some state) row sights b in
-      by_set false (known_now new) (seen_now new)
-      ∙ renewed_are (known_now b) (known_now new) (seen_now b) (seen_now new) told (forced_by settings (begun_in b.jobs.jobs b.phases))
-      (forced_by settings (begun_in b.jobs.jobs new.phases)) false
-      n j b.jobs.jobs facts (filled_but b sound n j at Running (Some state) (Some row) (Some sights)) (sym (at_same b.jobs.jobs n) ∙ at) served.apart
-      (not_forced (begun_in b.jobs.jobs new.phases) (begun_here b.jobs.jobs new.phases n j Running at (set_here b.phases n Running before was) refl))
-      (λ m k other here. ap (λ x. not x && by_force settings.force (list_any (makes k) settings.targets))
-      (begun_other b.jobs.jobs b.phases n j (job_path k) at
-      (false_unless (bytes_eq (job_path k) (job_path j))
-      (λ e. other (one_name b sound served.apart n j (job_path j) at (named_in (out_paths j.recipe) named) m k (at_same b.jobs.jobs m ∙ here) e)))
-      Running))
-      were
-
-  -- once it is closed
-  pub closed_facts :
-      slice_get b.phases n ≡ Some Running → (row : List (Option Entry)) (sights : List (Option Sight)) →
-      merged facts (renewed_at (advanced n Closed None row sights b) n false j facts) ≡ facts_now settings (advanced n Closed None row sights b)
-  closed_facts runs row sights =
-      let new : Base = advanced n Closed None row sights b in
-      let same : begun_in b.jobs.jobs new.phases ≡ begun_in b.jobs.jobs b.phases = closed_begun b.jobs.jobs b.phases n runs in
-      by_set false (known_now new) (seen_now new)
-      ∙ renewed_are (known_now b) (known_now new) (seen_now b) (seen_now new) told (forced_by settings (begun_in b.jobs.jobs b.phases))
-      (forced_by settings (begun_in b.jobs.jobs new.phases)) false
-      n j b.jobs.jobs facts (filled_but b sound n j at Closed None (Some row) (Some sights)) (sym (at_same b.jobs.jobs n) ∙ at) served.apart
-      (ap (λ ran. forced_by settings ran j) same ∙ not_forced (begun_in b.jobs.jobs b.phases) (begun_here b.jobs.jobs b.phases n j Running at runs refl))
-      (λ m k other here. ap (λ ran. forced_by settings ran k) same)
-      were
-
-  -- once something else is seen at its outputs
-  pub sighted_facts :
-      (flag : Bool) → forced_by settings (begun_in b.jobs.jobs b.phases) j ≡ flag → (sights : Option (List (Option Sight))) →
-      merged facts (renewed_at (sighted n sights b) n flag j facts) ≡ facts_now settings (sighted n sights b)
-  sighted_facts flag force sights =
-      let new : Base = sighted n sights b in
-      by_set flag (known_now new) (seen_now new)
-      ∙ renewed_are (known_now b) (known_now new) (seen_now b) (seen_now new) told (forced_by settings (begun_in b.jobs.jobs b.phases))
-      (forced_by settings (begun_in b.jobs.jobs b.phases)) flag
-      n j b.jobs.jobs facts (sighted_but b sound n j at sights) (sym (at_same b.jobs.jobs n) ∙ at) served.apart force (λ m k other here. refl) were

@@ -41,6 +41,7 @@ use Rattle.smk_plan_live.proofs.Tables.{known_is, mark_left, same_bytes, seen_is
 use Rattle.smk_plan_live.proofs.Restoring.{kept_at, one_job, one_name, outs_are, restored_so, site_found}
 use Rattle.smk_plan_live.proofs.Changed.{filled_but, get_other}
 use Rattle.smk_plan_live.proofs.Installed.{got, mapped_at}
+use Rattle.smk_plan_live.proofs.Putting.{set_at}
 
 -- ## What is left of an entry
 
@@ -133,11 +134,6 @@ placed_among (p ∷ ps) zero q e = or_first (bytes_eq q p) (among ps q) (ap (byt
 placed_among (p ∷ ps) (suc k) q e = or_second (bytes_eq q p) (among ps q) (placed_among ps k q e)
 
 -- ## Rows
-
-set_at : {A : Type 0} (xs : List A) (n : ℕ) (x : A) → n < length xs → slice_get (slice_set xs n x) n ≡ Some x
-set_at [] n x h = absurd (omega (arith, h))
-set_at (y ∷ xs) zero x h = refl
-set_at (y ∷ xs) (suc n) x h = set_at xs n x (omega (arith, h))
 
 joined_some : {A : Type 0} (xs : List A) (k : ℕ) → joined (slice_get (map Some xs) k) ≡ slice_get xs k
 joined_some [] k = refl

@@ -4,6 +4,8 @@ use Rattle.std.specs.Prelude.{if◌then◌else◌}
 use Rattle.std.specs.List.{list_any, slice_get}
 use Rattle.std.specs.BTreeMap.{get_by_text}
 use Rattle.std.proofs.Math.Bool.{and-true}
+use Rattle.std.proofs.lemmas.Option.{none-some}
+use Rattle.smk_base.proofs.Under.{never_both}
 use Rattle.smk_world.specs.declared.recipe.Out.{Out}
 use Rattle.smk_world.specs.World.{folders_above, in_paths}
 use Rattle.smk_world.specs.Trees.{Path, Each, outs_of}
@@ -25,9 +27,9 @@ use Rattle.smk_plan_table.specs.Plans.{Agree, IsRefused, IsRefusedAt}
 use Rattle.smk_plan_live.specs.declared.base.Base.{Base}
 use Rattle.smk_plan_live.specs.declared.sites.Site.{Site}
 use Rattle.smk_plan_live.specs.declared.phase.Phase.TheVariants.{Waiting}
-use Rattle.smk_plan_live.specs.Phases.{begun_in, children_in, named}
+use Rattle.smk_plan_live.specs.Phases.{begun_in, children_in, has_begun, named}
 use Rattle.smk_plan_live.specs.Now.{joined, row_by, row_at, entry_now, own_sight, seen_before, restores_at, restored_now, settled, known_now, seen_now}
-use Rattle.smk_plan_live.specs.Lives.{IsAgreed, IsRefusedNow, progress_of}
+use Rattle.smk_plan_live.specs.Lives.{AreNamed, IsAgreed, IsRefusedNow, progress_of}
 use Rattle.smk_plan_live.specs.Changes.{IsFirst}
 use Rattle.smk_plan_live.proofs.Resting.{agrees_at_rest}
 use Rattle.smk_plan_live.proofs.Tables.{known_is, seen_is, own_seen}
@@ -54,6 +56,23 @@ none_begun (j ∷ js) = none_begun js
 none_run : (js : List Job) → children_in js (map (λ (j : Job). None) js) ≡ []
 none_run [] = refl
 none_run (j ∷ js) = none_run js
+
+never_begun : (js : List Job) (n : ℕ) → test_some has_begun (slice_get (map (λ (j : Job). Waiting) js) n) ≡ false
+never_begun [] n = refl
+never_begun (j ∷ js) zero = refl
+never_begun (j ∷ js) (suc n) = never_begun js n
+
+-- none has begun, so each that has is named
+pub first_named : (b : Base) (jobs : Jobs) (store : List Known) (seen : List Sight) → IsFirst jobs store seen b → AreNamed b
+first_named b jobs store seen f =
+    record {
+      begun = λ n j at begun.
+          absurd
+          (never_both (test_some has_begun (slice_get b.phases n)) begun
+          (ap (λ phases. test_some has_begun (slice_get phases n)) f.phases ∙ never_begun jobs.jobs n));
+      running = λ n j s at runs.
+          absurd (none-some s (sym (no_row jobs.jobs n) ∙ ap (λ began. joined (slice_get began n)) (sym f.began) ∙ ap joined runs));
+    }
 
 -- ## What the image has
 

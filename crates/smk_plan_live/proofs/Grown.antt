@@ -1,21 +1,31 @@
 -- What was seen, as new jobs come.
-use Rattle.std.proofs.Common.{◌≡◌, ◌≢◌, Bool, true, false, ◌||◌, List, [], ◌∷◌, ◌++◌, map, Option, Some, None, Result, Ok, Err, IfErr, refl, sym, ap, ◌∙◌, bytes_eq}
+use Rattle.std.proofs.Common.{◌≡◌, ◌≢◌, Bool, true, false, ◌||◌, List, [], ◌∷◌, ◌++◌, map, Option, Some, None, is_some, Result, Ok, Err, IfErr, refl, sym, ap, ◌∙◌, bytes_eq}
 use Rattle.std.specs.Prelude.{if◌then◌else◌}
-use Rattle.std.specs.Option.{option_or}
+use Rattle.std.specs.Option.{option_and_then, option_or}
+use Rattle.std.specs.BTreeMap.{get_by_text}
+use Rattle.std.specs.List.{slice_get}
+use Rattle.std.proofs.lemmas.Option.{same_Some, none-some}
 use Rattle.std.proofs.lemmas.Bool.{or_parts}
 use Rattle.smk_base.proofs.Places.{same_place}
-use Rattle.smk_world.specs.Trees.{Path, among}
+use Rattle.smk_base.proofs.Under.{never_both}
+use Rattle.smk_world.specs.World.{out_paths}
+use Rattle.smk_world.specs.Trees.{Path, among, first}
 use Rattle.smk_store.specs.Stores.{Known}
 use Rattle.smk_chain.specs.declared.jobs.Jobs.{Jobs}
+use Rattle.smk_trigger.specs.declared.reason.State.{State}
 use Rattle.smk_pick.specs.declared.settings.Settings.{Settings}
 use Rattle.smk_plan.specs.declared.fault.PlanFault.{PlanFault}
 use Rattle.smk_plan.specs.declared.fault.PlanFault.TheVariants as fault
 use Rattle.smk_plan.specs.declared.seen.Sight.{Sight}
 use Rattle.smk_plan.specs.Sights.{sight_at}
+use Rattle.smk_plan.specs.States.{test_some}
 use Rattle.smk_plan_live.specs.declared.base.Base.{Base}
-use Rattle.smk_plan_live.specs.Carried.{told_upon, with_seen}
+use Rattle.smk_plan_live.specs.Carried.{began_from, if_first, or_waiting, phase_from, told_upon, with_seen}
 use Rattle.smk_plan_live.specs.Changes.{IsGrownBut, IsRefusedGrown}
-use Rattle.smk_plan_live.specs.Lives.{IsRefusedNow, IsSound}
+use Rattle.smk_plan_live.specs.Lives.{AreNamed, IsRefusedNow, IsSound}
+use Rattle.smk_plan_live.specs.Now.{joined}
+use Rattle.smk_plan_live.specs.Phases.{has_begun}
+use Rattle.smk_plan_live.proofs.Putting.{mapped_at}
 use Rattle.smk_plan_live.proofs.Tables.{flipped, not_seen}
 use Rattle.smk_plan_states.proofs.Tests.{among_append}
 
@@ -99,6 +109,36 @@ no_later fresh before after q was is paths told none out =
     told ∙ ap (λ o. option_or o was) (not_seen fresh q (or_parts (among (map (λ (s : Sight). s.path) fresh) q) (among before q) both).0)
     ∙ none (or_parts (among (map (λ (s : Sight). s.path) fresh) q) (among before q) both).1
 
+-- ## Names
+
+-- a job that had begun has an output to be named by
+from_named :
+    (old : Base) (o : Option Path) → has_begun (or_waiting (option_and_then (slice_get old.phases) (option_and_then if_first (option_and_then (get_by_text old.sites) o)))) ≡ true →
+    is_some o ≡ true
+from_named old None h = absurd (never_both false h refl)
+from_named old (Some q) h = refl
+
+from_running :
+    (old : Base) (o : Option Path) (s : State) → joined (option_and_then (slice_get old.began) (option_and_then if_first (option_and_then (get_by_text old.sites) o))) ≡ Some s →
+    is_some o ≡ true
+from_running old None s h = absurd (none-some s h)
+from_running old (Some q) s h = refl
+
+pub grown_named : (jobs : Jobs) (store : List Known) (fresh : List Sight) (old new : Base) → IsGrownBut jobs store fresh old new → AreNamed new
+grown_named jobs store fresh old new g =
+    record {
+      begun = λ n j at begun.
+          from_named old (first (out_paths j.recipe))
+          (ap (test_some has_begun)
+          (sym (ap (λ phases. slice_get phases n) g.phases ∙ mapped_at (phase_from old) jobs.jobs n j (ap (λ (js : Jobs). slice_get js.jobs n) (sym g.now) ∙ at)))
+          ∙ begun);
+      running = λ n j s at runs.
+          from_running old (first (out_paths j.recipe)) s
+          (same_Some (began_from old j) (Some s)
+          (sym (ap (λ began. slice_get began n) g.began ∙ mapped_at (began_from old) jobs.jobs n j (ap (λ (js : Jobs). slice_get js.jobs n) (sym g.now) ∙ at))
+          ∙ runs));
+    }
+
 -- a base is sound whatever was seen as the plan began
 pub seen_sound : (b : Base) (seen : List Sight) → IsSound b → IsSound (with_seen seen b)
 seen_sound b seen sound =
@@ -112,6 +152,9 @@ seen_sound b seen sound =
       came = sound.came;
       sources = sound.sources;
     }
+
+pub seen_named : (b : Base) (seen : List Sight) → AreNamed b → AreNamed (with_seen seen b)
+seen_named b seen named = record { begun = named.begun; running = named.running }
 
 -- what is refused of a base that has grown is so of the jobs, the store and the fresh sights
 pub grown_refused :

@@ -1,46 +1,49 @@
 -- A plan that is kept, once what is new was put in.
-use Rattle.std.specs.Prelude.{Result, Ok, Err, IfOk}
-use Rattle.std.proofs.Common.{◌≡◌, ℕ, zero, suc, ◌<◌, Bool, true, false, List, [], ◌∷◌, map, length, Option, Some, None, option_map, refl, sym, ap, ap₂, subst, ◌∙◌, arith}
-use Rattle.std.specs.Prelude.{slice_index_or}
-use Rattle.std.specs.List.{list_all, slice_get}
+use Rattle.std.proofs.Common.{◌≡◌, ℕ, zero, suc, ◌<◌, Bool, true, false, not, ◌&&◌, ◌==◌, List, [], ◌∷◌, map, length, Option, Some, None, option_map, refl, sym, ap, ap₂, subst, ◌∙◌, bytes_eq, arith}
+use Rattle.std.specs.Prelude.{slice_index_or, slice_set}
 use Rattle.std.specs.BTreeMap.{get_by_text}
+use Rattle.std.specs.BTreeSet.{contains_text}
+use Rattle.std.specs.List.{list_any, slice_get, AllZip}
+use Rattle.std.proofs.lemmas.Bool.{eqb-true, eqb-false}
+use Rattle.std.proofs.lemmas.Option.{same_Some}
+use Rattle.smk_base.proofs.Under.{never_both, false_unless}
+use Rattle.smk_world.specs.declared.recipe.Out.{Out}
 use Rattle.smk_world.specs.World.{out_paths}
-use Rattle.smk_base.proofs.Under.{never_both}
-use Rattle.std.proofs.lemmas.Option.{same_Some, none-some}
-use Rattle.smk_world.specs.Trees.{Path, among}
+use Rattle.smk_world.specs.Trees.{Path, Each, among, outs_of}
 use Rattle.smk_flow.specs.declared.job.Job.{Job}
 use Rattle.smk_store.specs.declared.store.Entry.{Entry}
 use Rattle.smk_trigger.specs.declared.facts.JobFacts.{JobFacts}
-use Rattle.smk_trigger.specs.declared.reason.Reason.{Reason}
 use Rattle.smk_trigger.specs.declared.reason.State.{State}
 use Rattle.smk_trigger.specs.Reasons.{reasons_of}
 use Rattle.smk_pick.specs.declared.settings.Settings.{Settings}
 use Rattle.smk_plan.specs.declared.plan.Plan.{Plan as Told}
 use Rattle.smk_plan.specs.declared.seen.Sight.{Sight}
-use Rattle.smk_plan.specs.States.{test_some}
+use Rattle.smk_plan.specs.States.{by_force, job_path, makes, test_some}
 use Rattle.smk_plan_facts.specs.Facts.{told_sources}
-use Rattle.smk_plan_facts.specs.Telling.{facts_in, forced_by, has_path_texts}
+use Rattle.smk_plan_facts.specs.Telling.{facts_in, forced_by, outputs_in}
+use Rattle.smk_plan_states.specs.Rows.{lent}
 use Rattle.smk_plan_states.specs.Served.{AreServed}
+use Rattle.smk_plan_table.specs.Parts.{IsSuspectOf}
 use Rattle.smk_plan_live.specs.declared.base.Base.{Base}
+use Rattle.smk_plan_live.specs.declared.lending.Lent.{Lent}
 use Rattle.smk_plan_live.specs.declared.live.LivePlan.{LivePlan}
+use Rattle.smk_plan_live.specs.declared.next.Change.{Change}
+use Rattle.smk_plan_live.specs.declared.renewing.Renewed.{Renewed}
 use Rattle.smk_plan_live.specs.declared.sites.Site.{Site}
 use Rattle.smk_plan_live.specs.declared.spending.Loss.{Loss}
 use Rattle.smk_plan_live.specs.declared.phase.Phase.{Phase}
 use Rattle.smk_plan_live.specs.declared.phase.Phase.TheVariants.{Waiting, Running, Closed}
 use Rattle.smk_plan_live.specs.Now.{known_now, seen_now}
-use Rattle.smk_plan_live.specs.Same.{merged}
+use Rattle.smk_plan_live.specs.Phases.{begun_in, has_begun}
+use Rattle.smk_plan_live.specs.Same.{paths_in, AreSameBut, put_each, all_news, numbered_facts, numbered_force, numbered_reasons, users_from}
 use Rattle.smk_plan_live.specs.Carried.{has_name, turned, filled, advanced, sighted, sight_but, spent, spent_at}
-use Rattle.smk_plan_live.specs.Steps.{IsLoss, IsSettledAt}
-use Rattle.smk_plan_live.specs.Phases.{begun_in}
-use Rattle.smk_plan_live.specs.Lives.{IsSound, IsSettled, IsNow, IsLive, AreJudgedBy, facts_now}
-use Rattle.smk_plan_live.proofs.Merged.{merged_map}
-use Rattle.smk_plan_live.proofs.Changed.{set_back, turned_sound, filled_sound, sighted_sound, begun_facts, closed_facts, sighted_facts}
-
--- what four clauses say of an answer
-pub if_four :
-    {T E : Type 0} (r : Result T E) (P Q R S U : T → Type 0) → ((t : T) → P t → Q t → R t → S t → U t) → IfOk r P → IfOk r Q → IfOk r R → IfOk r S → IfOk r U
-if_four (Ok t) P Q R S U f p q r s = f t p q r s
-if_four (Err e) P Q R S U f p q r s = tt
+use Rattle.smk_plan_live.specs.Lives.{AreLentNow, AreMakersWhole, AreNamed, IsLive, IsNow, facts_now}
+use Rattle.smk_plan_live.specs.Steps.{IsAhead, IsChanged, IsChangeOf, IsLoss, moved, or_no_numbers, readers_at}
+use Rattle.smk_plan_live.proofs.Changed.{set_back, set_here, get_other, filled_but, sighted_but, turned_sound, filled_sound, sighted_sound, closed_begun, begun_here, begun_other, named_in}
+use Rattle.smk_plan_live.proofs.Restoring.{at_same, one_name}
+use Rattle.smk_plan_live.proofs.Same.{doubted_same, is_other}
+use Rattle.smk_plan_live.proofs.Settled.{judged, news_are, reasons_are, outputs_are, makers_are, doubted_are}
+pub use Rattle.smk_plan_live.proofs.Putting.{mapped_at, put_map}
 
 -- ## Numbers of jobs
 
@@ -48,10 +51,6 @@ pub got : {A : Type 0} (xs : List A) (n : ℕ) → n < length xs → (x : A) × 
 got [] n h = absurd (omega (arith, h))
 got (x ∷ xs) zero h = (x, refl)
 got (x ∷ xs) (suc n) h = got xs n (omega (arith, h))
-
-pub some_named : (o : Option Job) → test_some has_name o ≡ true → (j : Job) × (o ≡ Some j) × (has_name j ≡ true)
-some_named None h = absurd (never_both false h refl)
-some_named (Some j) h = (j, refl, h)
 
 -- ## What was changed is put back
 
@@ -70,79 +69,92 @@ pub sighted_back :
     (b : Base) (n : ℕ) (sights saw : Option (List (Option Sight))) → saw ≡ slice_index_or b.sights n saw → sighted n saw (sighted n sights b) ≡ b
 sighted_back b n sights saw s = λ i. record b { sights = set_back b.sights n sights saw s i }
 
--- ## What is new
+-- ## What changes
 
--- the reasons with those that are new are those of the facts with those that are new
-pub reasons_merged :
-    (facts : List JobFacts) (reasons : List (List Reason)) (news : List (Option JobFacts)) (fresh : List (Option (List Reason))) →
-    reasons ≡ map reasons_of facts → fresh ≡ map (option_map reasons_of) news → merged reasons fresh ≡ map reasons_of (merged facts news)
-reasons_merged facts reasons news fresh told new = ap₂ merged told new ∙ sym (merged_map reasons_of facts news)
+not_forced : (settings : Settings) (j : Job) (ran : List Path) → among ran (job_path j) ≡ true → forced_by settings ran j ≡ false
+not_forced settings j ran h = ap (λ x. not x && by_force settings.force (list_any (makes j) settings.targets)) h
 
-pub judged_by :
-    (settings : Settings) (b : Base) (facts : List JobFacts) (reasons own : List (List Reason)) (news : List (Option JobFacts))
-    (fresh : List (Option (List Reason))) (forced : List Bool) →
-    IsSettled settings b facts reasons news → fresh ≡ map (option_map reasons_of) news → own ≡ merged reasons fresh → forced
-    ≡ map (λ (f : JobFacts). f.forced) (merged facts news) →
-    AreJudgedBy settings b (merged facts news) own forced
-judged_by settings b facts reasons own news fresh forced settled new all flags =
+-- jobs that have begun are named still, where the one that has turned is
+turned_named :
+    (b : Base) → AreNamed b → (n : ℕ) → ((k : Job) → slice_get b.jobs.jobs n ≡ Some k → has_name k ≡ true) → (phase : Phase) (state : Option State)
+    (row : Option (List (Option Entry))) (sights : Option (List (Option Sight))) →
+    AreNamed (filled n row sights (turned n phase state b))
+turned_named b named n its phase state row sights =
     record {
-      sound = settled.sound;
-      texts = settled.texts;
-      facts_are = settled.facts_are;
-      told = all ∙ reasons_merged facts reasons news fresh settled.told new;
-      flags = flags;
+      begun = λ m k at begun. of_begun m k at (m == n) refl begun;
+      running = λ m k s at runs. of_running m k s at (m == n) refl runs;
     }
+  where
+    here : (m : ℕ) (k : Job) → slice_get b.jobs.jobs m ≡ Some k → (m == n) ≡ true → has_name k ≡ true
+    here m k at e = its k (ap (slice_get b.jobs.jobs) (sym (eqb-true m n e)) ∙ at)
 
--- ## What is settled
+    of_begun :
+        (m : ℕ) (k : Job) → slice_get b.jobs.jobs m ≡ Some k → (c : Bool) → (m == n) ≡ c → test_some has_begun (slice_get (slice_set b.phases n phase) m) ≡ true →
+        has_name k ≡ true
+    of_begun m k at true e begun = here m k at e
+    of_begun m k at false e begun = named.begun m k at (ap (test_some has_begun) (sym (get_other b.phases n m phase (eqb-false m n e))) ∙ begun)
 
-pub begun_settled :
+    of_running :
+        (m : ℕ) (k : Job) (s : State) → slice_get b.jobs.jobs m ≡ Some k → (c : Bool) → (m == n) ≡ c → slice_get (slice_set b.began n state) m ≡ Some (Some s) →
+        has_name k ≡ true
+    of_running m k s at true e runs = here m k at e
+    of_running m k s at false e runs = named.running m k s at (sym (get_other b.began n m state (eqb-false m n e)) ∙ runs)
+
+pub begun_changed :
     (p : LivePlan) (live : IsLive p) (n : ℕ) (state : State) (found : Job) → slice_get p.base.jobs.jobs n ≡ Some found → has_name found ≡ true →
     slice_get p.base.phases n ≡ Some Waiting →
     (row : List (Option Entry)) (sights : List (Option Sight)) →
-    IsSettledAt p.settings (advanced n Running (Some state) row sights p.base) n false p.facts.items p.reasons.items
-begun_settled p live n state found is named waiting row sights = λ j at.
-    let same : found ≡ j = same_Some found j (sym is ∙ at) in
+    IsChanged p.settings p.base (advanced n Running (Some state) row sights p.base) n false
+begun_changed p live n state found is has waiting row sights =
+    let b : Base = p.base in
+    let phases : List Phase = slice_set p.base.phases n Running in
     record {
-      sound = filled_sound (turned n Running (Some state) p.base) (turned_sound p.base live.sound n Running (Some state)) n (Some row) (Some sights);
-      texts = live.texts;
-      told = live.reasons;
-      facts_are = λ served.
-          begun_facts p.settings p.base live.sound n j at p.facts.items served (live.facts served)
-          (subst (λ (x : Job). has_name x ≡ true) same named) Waiting waiting state row sights;
+      sound = filled_sound (turned n Running (Some state) b) (turned_sound b live.sound n Running (Some state)) n (Some row) (Some sights);
+      named = turned_named b live.named n (λ k at. subst (λ (x : Job). has_name x ≡ true) (same_Some found k (sym is ∙ at)) has) Running (Some state)
+          (Some row) (Some sights);
+      same = λ j at. filled_but b live.sound n j at Running (Some state) (Some row) (Some sights);
+      its = λ served j at. not_forced p.settings j (begun_in b.jobs.jobs phases) (begun_here b.jobs.jobs phases n j Running at
+          (set_here b.phases n Running Waiting waiting) refl);
+      others = λ served m k other here.
+          ap (λ x. not x && by_force p.settings.force (list_any (makes k) p.settings.targets))
+          (begun_other b.jobs.jobs b.phases n found (job_path k) is
+          (false_unless (bytes_eq (job_path k) (job_path found))
+          (λ e. other (one_name b live.sound served.apart n found (job_path found) is (named_in (out_paths found.recipe) has) m k here e)))
+          Running);
     }
 
-pub closed_settled :
+pub closed_changed :
     (p : LivePlan) (live : IsLive p) (n : ℕ) → slice_get p.base.phases n ≡ Some Running → (row : List (Option Entry)) (sights : List (Option Sight)) →
-    IsSettledAt p.settings (advanced n Closed None row sights p.base) n false p.facts.items p.reasons.items
-closed_settled p live n running row sights = λ j at.
+    IsChanged p.settings p.base (advanced n Closed None row sights p.base) n false
+closed_changed p live n runs row sights =
+    let b : Base = p.base in
+    let same : begun_in b.jobs.jobs (slice_set b.phases n Closed) ≡ begun_in b.jobs.jobs b.phases = closed_begun b.jobs.jobs b.phases n runs in
     record {
-      sound = filled_sound (turned n Closed None p.base) (turned_sound p.base live.sound n Closed None) n (Some row) (Some sights);
-      texts = live.texts;
-      told = live.reasons;
-      facts_are = λ served. closed_facts p.settings p.base live.sound n j at p.facts.items served (live.facts served) running row sights;
+      sound = filled_sound (turned n Closed None b) (turned_sound b live.sound n Closed None) n (Some row) (Some sights);
+      named = turned_named b live.named n (λ k at. live.named.begun n k at (ap (test_some has_begun) runs)) Closed None (Some row) (Some sights);
+      same = λ j at. filled_but b live.sound n j at Closed None (Some row) (Some sights);
+      its = λ served j at.
+          ap (λ ran. forced_by p.settings ran j) same
+          ∙ not_forced p.settings j (begun_in b.jobs.jobs b.phases) (begun_here b.jobs.jobs b.phases n j Running at runs refl);
+      others = λ served m k other here. ap (λ ran. forced_by p.settings ran k) same;
     }
 
-pub mapped_at : {A B : Type 0} (f : A → B) (xs : List A) (n : ℕ) (x : A) → slice_get xs n ≡ Some x → slice_get (map f xs) n ≡ Some (f x)
-mapped_at f [] n x e = absurd (none-some x e)
-mapped_at f (y ∷ xs) zero x e = ap (λ z. Some (f z)) (same_Some y x e)
-mapped_at f (y ∷ xs) (suc n) x e = mapped_at f xs n x e
-
-pub sighted_settled :
+pub sighted_changed :
     (p : LivePlan) (live : IsLive p) (n : ℕ) (facts : JobFacts) → slice_get p.facts.items n ≡ Some facts → (flag : Bool) → flag ≡ facts.forced →
     (sights : Option (List (Option Sight))) →
-    IsSettledAt p.settings (sighted n sights p.base) n flag p.facts.items p.reasons.items
-sighted_settled p live n facts has flag is sights = λ j at.
+    IsChanged p.settings p.base (sighted n sights p.base) n flag
+sighted_changed p live n facts has flag is sights =
     record {
       sound = sighted_sound p.base live.sound n sights;
-      texts = live.texts;
-      told = live.reasons;
-      facts_are = λ served.
+      named = record { begun = live.named.begun; running = live.named.running };
+      same = λ j at. sighted_but p.base live.sound n j at sights;
+      its = λ served j at.
           let forced : Job → Bool = forced_by p.settings (begun_in p.base.jobs.jobs p.base.phases) in
           let fact : Job → JobFacts = facts_in (known_now p.base) (seen_now p.base) (among (told_sources p.base.jobs.makers)) forced in
           let same : fact j ≡ facts = same_Some (fact j) facts
           (sym (mapped_at fact p.base.jobs.jobs n j at) ∙ sym (ap (λ (fs : List JobFacts). slice_get fs n) (live.facts served)) ∙ has) in
-          sighted_facts p.settings p.base live.sound n j at p.facts.items served (live.facts served) flag
-          (ap (λ (f : JobFacts). f.forced) same ∙ sym is) sights;
+          ap (λ (f : JobFacts). f.forced) same ∙ sym is;
+      others = λ served m k other here. refl;
     }
 
 -- what is lost with an output is what changes as it is removed
@@ -155,22 +167,148 @@ loss_spent p gone site loss has x =
     ∙ ap (λ row. sighted site.job row b) (sym (ap (option_map (λ (j : Job). map (sight_but b gone) (out_paths j.recipe))) x.is))
     ∙ ap (λ o. spent_at o gone b) (sym has)
 
--- ## The plan with it
+-- ## What has changed already
 
-pub installed :
-    (old new : LivePlan) (b : Base) (news : List (Option JobFacts)) (fresh : List (Option (List Reason))) (told : Told) (held : Bool) →
-    IsSettled old.settings b old.facts.items old.reasons.items news → fresh ≡ map (option_map reasons_of) news →
-    length told.states ≡ length b.jobs.jobs → length told.current ≡ length old.settings.targets → IsNow old.settings b told held →
-    new.base ≡ b → new.settings ≡ old.settings → new.facts.items ≡ merged old.facts.items news → new.reasons.items ≡ merged old.reasons.items fresh →
-    new.plan ≡ told → new.held ≡ held → IsLive new
-installed old new b news fresh told held settled newly each targets now base settings facts reasons plan back =
-    record {
-      sound = subst IsSound (sym base) settled.sound;
-      texts = subst (λ (x : Base). list_all has_path_texts x.jobs.jobs ≡ true) (sym base) settled.texts;
-      each = ap (λ (x : Told). length x.states) plan ∙ each ∙ sym (ap (λ (x : Base). length x.jobs.jobs) base);
-      targets = ap (λ (x : Told). length x.current) plan ∙ targets ∙ sym (ap (λ (x : Settings). length x.targets) settings);
-      facts = λ served.
-          facts ∙ settled.facts_are (coe 0 1 (i. AreServed (base i).jobs (settings i).targets) served) ∙ sym (λ i. facts_now (settings i) (base i));
-      reasons = reasons ∙ reasons_merged old.facts.items old.reasons.items news fresh settled.told newly ∙ sym (ap (map reasons_of) facts);
-      now = coe 1 0 (i. IsNow (settings i) (base i) (plan i) (back i)) now;
-    }
+-- the base is what it is as the job has come a step further
+pub ahead_advanced :
+    (p : LivePlan) → IsLive p → (n : ℕ) (phase : Phase) (state : Option State) (row : List (Option Entry)) (sights : List (Option Sight)) (forced : Bool) →
+    IsChanged p.settings p.base (advanced n phase state row sights p.base) n forced →
+    IsAhead (record p { base = advanced n phase state row sights p.base }) n forced
+ahead_advanced p live n phase state row sights forced changed =
+    record { phases = p.base.phases; began = p.base.began; entries = p.base.entries; sights = p.base.sights; live = live; changed = changed }
+
+-- or once something else is seen at its outputs
+pub ahead_sighted :
+    (p : LivePlan) → IsLive p → (n : ℕ) (sights : Option (List (Option Sight))) (forced : Bool) → IsChanged p.settings p.base (sighted n sights p.base) n forced →
+    IsAhead (record p { base = sighted n sights p.base }) n forced
+ahead_sighted p live n sights forced changed =
+    record { phases = p.base.phases; began = p.base.began; entries = p.base.entries; sights = p.base.sights; live = live; changed = changed }
+
+-- ## What is kept then
+
+module _ (p : LivePlan) (n : ℕ) (forced : Bool) (ahead : IsAhead p n forced) (change : Change) (is : IsChangeOf p n forced change) where
+  abbrev before : Base
+  before = moved ahead.phases ahead.began ahead.entries ahead.sights p.base
+
+  abbrev jobs : List Job
+  jobs = p.base.jobs.jobs
+
+  abbrev outs : List Out
+  outs = outs_of is.job.recipe
+
+  abbrev told : Path → Bool
+  told = among (told_sources p.base.jobs.makers)
+
+  same : AreSameBut outs (known_now before) (known_now p.base) (seen_now before) (seen_now p.base)
+  same = ahead.changed.same is.job is.is
+
+  module _ (served : AreServed p.base.jobs p.settings.targets) where
+    other : (m : ℕ) (k : Job) → (m ≡ n → ⊥) → slice_get jobs m ≡ Some k → Each (λ q. among (paths_in outs) q ≡ false) (out_paths k.recipe)
+    other m k apart here = is_other jobs m n k is.job served.apart apart (sym (at_same jobs m) ∙ here) (sym (at_same jobs n) ∙ is.is)
+
+    readers_are : readers_at p.readers.items n ≡ users_from outs 0 jobs
+    readers_are =
+        ap (λ rows. readers_at rows n) (ahead.live.readers served)
+        ∙ ap or_no_numbers (mapped_at (λ (k : Job). users_from (outs_of k.recipe) 0 jobs) jobs n is.job is.is)
+
+    facts_then : put_each p.facts.items (map numbered_facts change.news.items) ≡ facts_now p.settings p.base
+    facts_then =
+        ap (λ news. put_each p.facts.items (map numbered_facts news))
+        (is.news
+        ∙ (λ i. all_news (known_now p.base) (seen_now p.base) (λ q. ahead.changed.sound.sources q i) forced n is.job p.facts.items (readers_are i)))
+        ∙ news_are outs (known_now before) (known_now p.base) (seen_now before) (seen_now p.base) same told
+        (forced_by p.settings (begun_in jobs before.phases)) (forced_by p.settings (begun_in jobs p.base.phases)) n jobs p.facts.items
+        (ahead.live.facts served) (λ m k apart here. (other m k apart here, ahead.changed.others served m k apart here)) forced is.job is.is
+        (ahead.changed.its served is.job is.is)
+
+    outputs_then : slice_set p.flags.outputs n change.outputs ≡ map (outputs_in (known_now p.base) (seen_now p.base)) jobs
+    outputs_then =
+        ap₂ (λ rows row. slice_set rows n row) (ahead.live.flags served).outputs is.outputs
+        ∙ outputs_are outs (known_now before) (known_now p.base) (seen_now before) (seen_now p.base) same n jobs is.job is.is other
+
+    makers_then : AreMakersWhole p.base change.makers
+    makers_then =
+        subst (AreMakersWhole p.base) (sym is.makers)
+        (makers_are outs (known_now before) (known_now p.base) (seen_now before) (seen_now p.base) same n jobs is.job is.is other p.base.jobs.makers
+        p.flags.makers (ahead.live.flags served).makers)
+
+    doubted_then : AllZip (IsSuspectOf (known_now p.base) (seen_now p.base) p.settings.bounds) jobs change.suspects.items
+    doubted_then =
+        subst (AllZip (IsSuspectOf (known_now p.base) (seen_now p.base) p.settings.bounds) jobs) (sym is.suspects)
+        (doubted_are (IsSuspectOf (known_now before) (seen_now before) p.settings.bounds) (IsSuspectOf (known_now p.base) (seen_now p.base) p.settings.bounds)
+        n jobs p.flags.suspects is.suspect
+        (λ m k x apart here are. doubted_same outs (known_now before) (known_now p.base) (seen_now before) (seen_now p.base) same told p.settings.bounds k x
+        (other m k apart here) are)
+        (λ k here. subst (λ (x : Job). IsSuspectOf (known_now p.base) (seen_now p.base) p.settings.bounds x is.suspect)
+        (same_Some is.job k (sym is.is ∙ here)) is.doubted)
+        (ahead.live.flags served).suspects)
+
+  -- the reasons with those that are new are those of the facts with those that are new
+  reasons_then : put_each p.reasons.items (map numbered_reasons change.news.items) ≡ map reasons_of (put_each p.facts.items (map numbered_facts change.news.items))
+  reasons_then =
+      ap₂ put_each ahead.live.reasons by_facts
+      ∙ sym (put_map reasons_of (λ (r : Renewed). r.number) (λ (r : Renewed). r.facts) change.news.items p.facts.items)
+    where
+      by_facts : map numbered_reasons change.news.items ≡ map judged change.news.items
+      by_facts =
+          subst (λ (news : List Renewed). map numbered_reasons news ≡ map judged news) (sym is.news)
+          (reasons_are (known_now p.base) (seen_now p.base) (contains_text p.base.sources) forced n is.job p.facts.items (readers_at p.readers.items n))
+
+  -- what is lent with what is new
+  pub lent_then :
+      (rows : Lent) → lent rows.outputs.items ≡ slice_set p.flags.outputs change.number change.outputs →
+      lent rows.reasons.items ≡ put_each p.reasons.items (map numbered_reasons change.news.items) →
+      rows.forced.items ≡ put_each (map (λ (f : JobFacts). f.forced) p.facts.items) (map numbered_force change.news.items) →
+      AreServed p.base.jobs p.settings.targets → AreLentNow p.settings p.base rows change.makers change.suspects.items
+  lent_then rows outputs reasons force served =
+      record {
+        sound = ahead.changed.sound;
+        named = ahead.changed.named;
+        texts = ahead.live.texts;
+        outputs = outputs ∙ ap (λ m. slice_set p.flags.outputs m change.outputs) is.number ∙ outputs_then served;
+        whole = makers_then served;
+        reasons = reasons ∙ reasons_then ∙ ap (map reasons_of) (facts_then served);
+        forced =
+            force ∙ sym (put_map (λ (f : JobFacts). f.forced) (λ (r : Renewed). r.number) (λ (r : Renewed). r.facts) change.news.items p.facts.items)
+            ∙ ap (map (λ (f : JobFacts). f.forced)) (facts_then served);
+        doubted = doubted_then served;
+      }
+
+  -- the plan with what is new
+  pub installed :
+      (new : LivePlan) (plan : Told) (held : Bool) → length plan.states ≡ length jobs → length plan.current ≡ length p.settings.targets →
+      IsNow p.settings p.base plan held → new.base ≡ p.base → new.settings ≡ p.settings →
+      new.facts.items ≡ put_each p.facts.items (map numbered_facts change.news.items) →
+      new.reasons.items ≡ put_each p.reasons.items (map numbered_reasons change.news.items) →
+      new.plan ≡ plan → new.held ≡ held →
+      new.flags.outputs ≡ slice_set p.flags.outputs change.number change.outputs → new.flags.makers ≡ change.makers →
+      new.flags.suspects ≡ change.suspects.items → new.table ≡ p.table → new.readers ≡ p.readers → IsLive new
+  installed new plan held each targets now base settings facts reasons told back outputs makers suspects table readers =
+      coe 1 0
+      (i.
+      IsLive
+      (record new {
+        base = base i;
+        settings = settings i;
+        plan = told i;
+        held = back i;
+        table = table i;
+        readers = readers i;
+        flags = record { outputs = its i; makers = makers i; suspects = suspects i };
+      }))
+      (record {
+        sound = ahead.changed.sound;
+        texts = ahead.live.texts;
+        each = each;
+        targets = targets;
+        facts = λ served. facts ∙ facts_then served;
+        reasons = reasons ∙ reasons_then ∙ sym (ap (map reasons_of) facts);
+        now = now;
+        table = ahead.live.table;
+        flags = λ served. record { outputs = outputs_then served; makers = makers_then served; suspects = doubted_then served };
+        readers = ahead.live.readers;
+        named = ahead.changed.named;
+      })
+    where
+      its : new.flags.outputs ≡ slice_set p.flags.outputs n change.outputs
+      its = outputs ∙ ap (λ m. slice_set p.flags.outputs m change.outputs) is.number

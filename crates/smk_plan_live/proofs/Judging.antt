@@ -1,51 +1,41 @@
 -- What the jobs are judged by at any moment.
-use Rattle.std.proofs.Common.{◌≡◌, Bool, true, false, cond, List, [], ◌∷◌, map, Option, Some, option_map, refl, sym, subst, ◌∙◌}
-use Rattle.std.specs.Prelude.{bytes_eq}
-use Rattle.std.specs.List.{AllZip, find}
-use Rattle.smk_world.specs.Trees.{Path}
+use Rattle.std.proofs.Common.{◌≡◌, Bool, List, [], ◌∷◌, map, refl, sym, ap, ap₂, ◌∙◌}
+use Rattle.std.specs.List.{AllZip}
+use Rattle.smk_world.specs.Trees.{Path, Each}
 use Rattle.smk_flow.specs.declared.job.Job.{Job}
 use Rattle.smk_store.specs.Images.{Image}
-use Rattle.smk_trigger.specs.declared.facts.JobFacts.{JobFacts}
-use Rattle.smk_trigger.specs.declared.reason.Reason.{Reason}
-use Rattle.smk_trigger.specs.declared.reason.State.{State}
+use Rattle.smk_chain.specs.declared.jobs.Maker.{Maker}
 use Rattle.smk_pick.specs.declared.settings.Settings.{Settings}
 use Rattle.smk_plan.specs.declared.fault.PlanFault.{PlanFault}
 use Rattle.smk_plan.specs.declared.plan.Plan.{Plan as Told}
 use Rattle.smk_plan.specs.declared.wholes.Wholes.{Wholes}
 use Rattle.smk_plan.specs.Sights.{wholes_of}
-use Rattle.smk_plan.specs.States.{job_path, kept_state}
-use Rattle.smk_plan_facts.specs.Facts.{AreFactsOf}
+use Rattle.smk_plan_facts.specs.Facts.{AreFactsOf, IsMade}
 use Rattle.smk_plan_facts.specs.Laws.{FactsAreSo, WholesAreSo}
-use Rattle.smk_plan_states.specs.Judged.{AreJudged, with_states}
-use Rattle.smk_plan_table.specs.Plans.{Agree, IsRefusedAt}
+use Rattle.smk_plan_facts.specs.Telling.{directories_of, is_told_whole, wholes_in, IsSorted}
+use Rattle.smk_plan_states.specs.declared.rows.Rows.{Rows}
+use Rattle.smk_plan_states.specs.Judged.{with_states}
+use Rattle.smk_plan_states.specs.Rows.{lent}
+use Rattle.smk_plan_table.specs.declared.suspects.Suspect.{Suspect}
+use Rattle.smk_plan_table.specs.Plans.{Agree, IsGiven, IsRefusedAt}
 use Rattle.smk_plan_live.specs.declared.base.Base.{Base}
-use Rattle.smk_plan_live.specs.declared.children.Child.{Child}
-use Rattle.smk_plan_live.specs.Phases.{named, named_state, children_in, begun_in}
+use Rattle.smk_plan_live.specs.declared.lending.Lent.{Lent}
+use Rattle.smk_plan_live.specs.Phases.{begun_in, has_begun}
 use Rattle.smk_plan_live.specs.Now.{known_now, seen_now}
-use Rattle.smk_plan_live.specs.Lives.{IsAgreed, IsTold, AreWhole, AreJudgedBy, judging_of, progress_of}
+use Rattle.smk_plan_live.specs.Lives.{AreLentNow, AreWhole, IsAgreed, IsTold, facts_now, judging_of, progress_of}
 use Rattle.smk_plan_live.proofs.Bridge.{reasons_are, forced_are}
 use Rattle.smk_plan_live.proofs.Counted.{as_known, counted_agrees, held_same, made_same, refusal_same, unmarked}
+use Rattle.smk_plan_live.proofs.Numbered.{begun_are, running_are}
 use Rattle.smk_plan_live.proofs.Tables.{left_now}
 
-abbrev pair_state : List (Path × State) → Path → Option State
-pair_state pairs n = option_map (λ (e : Path × State). e.1) (find (λ (e : Path × State). bytes_eq e.0 n) pairs)
-
-named_found : (cs : List Child) (n : Path) → named_state cs n ≡ pair_state (map named cs) n
-named_found [] n = refl
-named_found (c ∷ cs) n = go (bytes_eq c.name n) (named_found cs n)
-  where
-    go :
-        (b : Bool) → named_state cs n ≡ pair_state (map named cs) n →
-        option_map (λ (x : Child). x.state) (cond b (Some c) (find (λ (x : Child). bytes_eq x.name n) cs))
-        ≡ option_map (λ (e : Path × State). e.1) (cond b (Some (named c)) (find (λ (e : Path × State). bytes_eq e.0 n) (map named cs)))
-    go true e = refl
-    go false e = e
-
-pub kept_are :
-    (b : Base) (image : Image) (settings : Settings) →
-    map (λ (j : Job). named_state (children_in b.jobs.jobs b.began) (job_path j)) b.jobs.jobs
-    ≡ map (kept_state image settings (progress_of b) (with_states b.jobs [])) b.jobs.jobs
-kept_are b image settings = λ i. map (λ j. named_found (children_in b.jobs.jobs b.began) (job_path j) i) b.jobs.jobs
+-- where it is told rightly of each maker whether its path is whole, these are the flags
+whole_flags :
+    (jobs : List Job) (test : Maker → Bool) (makers : List Maker) (flags : List Bool) → AllZip (λ m f. IsMade jobs m → f ≡ test m) makers flags →
+    Each (IsMade jobs) makers → flags ≡ map test makers
+whole_flags jobs test [] [] h made = refl
+whole_flags jobs test [] (f ∷ flags) h made = absurd h
+whole_flags jobs test (m ∷ makers) [] h made = absurd h
+whole_flags jobs test (m ∷ makers) (f ∷ flags) h made = ap₂ (λ g gs. g ∷ gs) (h.0 made.0) (whole_flags jobs test makers flags h.1 made.1)
 
 module _ (facts_law : FactsAreSo) (wholes_law : WholesAreSo) (b : Base) (settings : Settings) (image : Image) (agrees : IsAgreed image settings b) where
   -- the folder as it counts now
@@ -55,27 +45,36 @@ module _ (facts_law : FactsAreSo) (wholes_law : WholesAreSo) (b : Base) (setting
   pub agree_now : Agree counted_now b.jobs (known_now b) (seen_now b) settings.targets
   agree_now = counted_agrees image settings (progress_of b) b.jobs (known_now b) (seen_now b) agrees (left_now b)
 
-  pub wholes_are : (wholes : Wholes) → AreWhole b wholes → wholes ≡ wholes_of counted_now b.jobs
-  wholes_are wholes whole =
-      let law = wholes_law counted_now b.jobs (known_now b) (seen_now b) agree_now.stored agree_now.sighted agree_now.named agree_now.recorded agree_now.made in
-      whole law.0 ∙ law.1
+  told_wholes : Each (Each (IsSorted (seen_now b))) (map (directories_of (known_now b) (seen_now b)) b.jobs.jobs) × (wholes_in (known_now b) (seen_now b) b.jobs ≡ wholes_of counted_now b.jobs)
+  told_wholes = wholes_law counted_now b.jobs (known_now b) (seen_now b) agree_now.stored agree_now.sighted agree_now.named agree_now.recorded agree_now.made
 
-  pub judged_now :
-      (facts : List JobFacts) (reasons : List (List Reason)) (forced : List Bool) → AreJudgedBy settings b facts reasons forced →
-      (running : List (Option State)) → running ≡ map (λ (j : Job). named_state (children_in b.jobs.jobs b.began) (job_path j)) b.jobs.jobs →
-      AreJudged (judging_of counted_now settings b) b.jobs (record { reasons = reasons; forced = forced; running = running })
-  judged_now facts reasons forced judged running runs =
-      let are : AllZip (AreFactsOf counted_now settings (begun_in b.jobs.jobs b.phases) (with_states b.jobs [])) b.jobs.jobs facts =
-      subst (AllZip (AreFactsOf counted_now settings (begun_in b.jobs.jobs b.phases) (with_states b.jobs [])) b.jobs.jobs)
-      (sym (judged.facts_are agrees.served))
-      (facts_law counted_now settings (begun_in b.jobs.jobs b.phases) (with_states b.jobs []) b.jobs (known_now b)
+  pub wholes_are : (wholes : Wholes) → AreWhole b wholes → wholes ≡ wholes_of counted_now b.jobs
+  wholes_are wholes whole = whole told_wholes.0 ∙ told_wholes.1
+
+  -- what is lent is so in the folder as it counts now
+  pub given_now :
+      (l : Lent) (makers : List Bool) (suspects : List Suspect) → AreLentNow settings b l makers suspects → (rows : Rows) → rows.outputs.now ≡ l.outputs.items →
+      rows.makers.now ≡ makers → rows.reasons.now ≡ l.reasons.items → rows.forced.now ≡ l.forced.items → rows.running.now ≡ b.began →
+      (begun : List Bool) → begun ≡ map has_begun b.phases →
+      IsGiven (judging_of counted_now settings b) b.jobs (known_now b) (seen_now b) rows begun suspects
+  given_now l makers suspects given rows outputs whole reasons forced running begun has =
+      let are : AllZip (AreFactsOf counted_now settings (begun_in b.jobs.jobs b.phases) (with_states b.jobs [])) b.jobs.jobs (facts_now settings b) =
+      facts_law counted_now settings (begun_in b.jobs.jobs b.phases) (with_states b.jobs []) b.jobs (known_now b)
       (seen_now b) agree_now.stored agree_now.sighted agree_now.summed
-      agree_now.recorded agree_now.read judged.texts)
+      agree_now.recorded agree_now.read given.texts
       in let none = unmarked image settings (progress_of b) b.jobs (known_now b) (seen_now b) agrees (left_now b) in
       record {
-        reasons = judged.told ∙ reasons_are counted_now settings (progress_of b) b.jobs none facts are;
-        forced = judged.flags ∙ forced_are counted_now settings (progress_of b) b.jobs none facts are;
-        running = runs ∙ kept_are b counted_now settings;
+        right = record {
+          outputs = ap lent outputs ∙ given.outputs ∙ ap (λ (w : Wholes). w.outputs) told_wholes.1;
+          makers = whole
+              ∙ whole_flags b.jobs.jobs (is_told_whole (seen_now b) (map (directories_of (known_now b) (seen_now b)) b.jobs.jobs)) b.jobs.makers makers given.whole agree_now.made
+              ∙ ap (λ (w : Wholes). w.makers) told_wholes.1;
+          reasons = ap lent reasons ∙ given.reasons ∙ reasons_are counted_now settings (progress_of b) b.jobs none (facts_now settings b) are;
+          forced = forced ∙ given.forced ∙ forced_are counted_now settings (progress_of b) b.jobs none (facts_now settings b) are;
+          running = running ∙ sym (running_are b settings.targets counted_now settings given.sound given.named agrees.served);
+        };
+        begun = has ∙ sym (begun_are b settings.targets given.sound given.named agrees.served);
+        doubted = given.doubted;
       }
 
   -- what is told of the folder as it counts now is told of the folder

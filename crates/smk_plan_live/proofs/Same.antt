@@ -1,4 +1,4 @@
--- The facts of jobs stay, but for those that are told anew, where what is known and seen changes at the outputs of one job alone.
+-- What is told of jobs stays, but for what is told anew, where what is known and seen changes at the outputs of one job alone.
 use Rattle.std.proofs.Common.{◌≡◌, ℕ, zero, suc, ◌+◌, ◌<◌, Bool, true, false, not, ◌&&◌, ◌||◌, ◌==◌, List, [], ◌∷◌, ◌++◌, map, length, drop, Option, Some, None, refl, sym, ap, ap₂, subst, ◌∙◌, arith, inl, inr, bytes_eq}
 use Rattle.std.specs.Prelude.{if◌then◌else◌, is_some, ◌⊎◌}
 use Rattle.std.specs.List.{list_any, flat_map}
@@ -12,6 +12,7 @@ use Rattle.smk_choose.proofs.Listed.{map_map}
 use Rattle.smk_base.specs.Path.{is_under, is_at_or_under, overlaps}
 use Rattle.smk_base.proofs.Places.{same_place, place_itself}
 use Rattle.smk_base.proofs.Under.{never_both, false_unless, or_first, or_second, or_cases, at_itself, at_when_under, both_true}
+use Rattle.smk_base.specs.declared.tree.Amount.{Amount}
 use Rattle.smk_world.specs.declared.recipe.Item.{Item}
 use Rattle.smk_world.specs.declared.recipe.Out.{Out}
 use Rattle.smk_world.specs.declared.recipe.OutItem.{OutItem}
@@ -21,6 +22,7 @@ use Rattle.smk_world.specs.Trees.{Path, Each, among, outs_of}
 use Rattle.smk_record.specs.declared.record.Stamp.{Stamp}
 use Rattle.smk_record.specs.Records.{is_valid}
 use Rattle.smk_flow.specs.declared.job.Job.{Job}
+use Rattle.smk_store.specs.declared.store.Entry.{Entry}
 use Rattle.smk_store.specs.declared.store.Kept.{Kept}
 use Rattle.smk_store.specs.declared.store.Kept.TheVariants.{Absent, Unreadable, Held}
 use Rattle.smk_store.specs.Images.{readable}
@@ -28,10 +30,14 @@ use Rattle.smk_store.specs.Stores.{Known, entry_of}
 use Rattle.smk_trigger.specs.declared.facts.JobFacts.{JobFacts}
 use Rattle.smk_plan.specs.declared.seen.Sight.{Sight}
 use Rattle.smk_plan.specs.Sights.{job_at}
-use Rattle.smk_plan_facts.specs.Telling.{kept_of, mark_of, copied, copied_at, marked_at, stamp_by, nearer, nearest, stamp_seen, stamp_in, facts_in}
-use Rattle.smk_plan_facts.proofs.Tests.{map_each}
+use Rattle.smk_plan.specs.States.{makes, test_some}
+use Rattle.smk_plan_facts.specs.Telling.{kept_of, mark_of, copied, copied_at, marked_at, stamp_by, nearer, nearest, stamp_seen, stamp_in, facts_in, whole_at, directories_of, outputs_in, is_made_in}
+use Rattle.smk_plan_facts.proofs.Stays.{whole_same, made_same as made_stays}
+use Rattle.smk_plan_facts.proofs.Tests.{map_each, each_of}
 use Rattle.smk_plan_states.specs.Served.{AreApart, outputs_of}
-use Rattle.smk_plan_live.specs.Same.{paths_in, is_over, is_user, AreSameBut, or_old, merged, restamp, restamped, user_facts, renewed_of, renewed_from, renewed}
+use Rattle.smk_plan_table.specs.declared.suspects.Suspect.{Suspect}
+use Rattle.smk_plan_table.specs.Parts.{IsSuspectOf, is_guarded_in, is_marked_in}
+use Rattle.smk_plan_live.specs.Same.{paths_in, is_over, is_user, AreSameBut, restamp, restamped, user_facts}
 
 -- ## Lists
 
@@ -75,7 +81,7 @@ each_above (b ∷ text) = go (b == 47) refl (each_longer b text (folders_above t
     go true e h = (e, h)
     go false e h = h
 
-over_at : (outs : List Out) (q p : Path) → is_at_or_under q p ≡ true → among (paths_in outs) p ≡ true → is_over outs q ≡ true
+pub over_at : (outs : List Out) (q p : Path) → is_at_or_under q p ≡ true → among (paths_in outs) p ≡ true → is_over outs q ≡ true
 over_at [] q p at h = h
 over_at (o ∷ outs) q p at h = go (or_cases (bytes_eq p o.path) (among (paths_in outs) p) h) (over_at outs q p at)
   where
@@ -259,42 +265,48 @@ module _ (outs : List Out) (old new : List Known) (saw sees : List Sight) (same 
       let flag = sym force in
       λ i. record { recipe = k.recipe; kept = kept i; marked = marks i; stamps = stamps i; forced = flag i }
 
-  -- ## The facts of all jobs
+  -- ## What is whole
 
-  module _ (forced after : Job → Bool) (flag : Bool) where
-    -- what is asked of a job, as it is the one whose outputs these are or isn't
-    abbrev Fits : Bool → Job → Type 0
-    Fits true k = after k ≡ flag
-    Fits false k = IsOther k × (after k ≡ forced k)
+  -- nothing has changed at the path
+  abbrev IsFree : Path → Type 0
+  IsFree p = among (paths_in outs) p ≡ false
 
-    one_is : (is_it : Bool) (k : Job) → Fits is_it k →
-        or_old (renewed_of new sees told flag outs is_it k (facts_in old saw told forced k)) (facts_in old saw told forced k) ≡ facts_in new sees told after k
-    one_is true k h = ap (λ b. facts_in new sees told (λ x. b) k) (sym h)
-    one_is false k h = go (is_user outs k) refl
-      where
-        go : (b : Bool) → is_user outs k ≡ b →
-            or_old (if b then Some (user_facts new sees told outs (facts_in old saw told forced k)) else None) (facts_in old saw told forced k) ≡ facts_in new sees told after k
-        go true e = user_same forced after k h.0 h.1
-        go false e = sym (facts_same forced k e h.0) ∙ ap (λ b. facts_in new sees told (λ x. b) k) (sym h.1)
+  each_whole : (os : List Out) → Each (λ (o : Out). IsFree o.path) os → Each (λ (o : Out). whole_at new sees o ≡ whole_at old saw o) os
+  each_whole [] h = tt
+  each_whole (o ∷ os) h = (whole_same old new saw sees IsFree same.known same.seen o.path o.kind h.0, each_whole os h.1)
 
-    abbrev AllFit : ℕ → ℕ → List Job → Type 0
-    AllFit n i [] = Unit {0}
-    AllFit n i (k ∷ jobs) = Fits (i == n) k × AllFit n (suc i) jobs
+  pub outputs_same : (k : Job) → IsOther k → outputs_in new sees k ≡ outputs_in old saw k
+  outputs_same k other =
+      by_outs (whole_at new sees) k.recipe
+      ∙ map_each (whole_at new sees) (whole_at old saw) (outs_of k.recipe) (each_whole (outs_of k.recipe) (others k other))
+      ∙ sym (by_outs (whole_at old saw) k.recipe)
 
-    all_are : (n i : ℕ) (jobs : List Job) → AllFit n i jobs →
-        merged (map (facts_in old saw told forced) jobs) (renewed_from new sees told flag outs n i jobs (map (facts_in old saw told forced) jobs))
-        ≡ map (facts_in new sees told after) jobs
-    all_are n i [] h = refl
-    all_are n i (k ∷ jobs) h = ap₂ (λ f fs. f ∷ fs) (one_is (i == n) k h.0) (all_are n (suc i) jobs h.1)
+  -- what another job makes at a path is as whole as it was
+  pub made_same : (k : Job) → IsOther k → (q : Path) → makes k q ≡ true → is_made_in sees q (directories_of new sees k) ≡ is_made_in saw q (directories_of old saw k)
+  made_same k other q made = made_stays old new saw sees IsFree same.known same.seen k (others k other) q made
 
-    all_fit : (n i : ℕ) (jobs : List Job) → ((m : ℕ) (k : Job) → job_at jobs m ≡ Some k → Fits (i + m == n) k) → AllFit n i jobs
-    all_fit n i [] h = tt
-    all_fit n i (k ∷ jobs) h =
-        let here : i + 0 ≡ i = omega arith in
-        (subst (λ x. Fits (x == n) k) here (h 0 k refl), all_fit n (suc i) jobs (λ m x e. subst (λ y. Fits (y == n) x) (further i m) (h (suc m) x e)))
-      where
-        further : (i m : ℕ) → i + suc m ≡ suc i + m
-        further i m = omega arith
+  -- ## What may be refused
+
+  each_any : {A : Type 0} (f g : A → Bool) (xs : List A) → Each (λ x. f x ≡ g x) xs → list_any f xs ≡ list_any g xs
+  each_any f g [] h = refl
+  each_any f g (x ∷ xs) h = ap₂ (λ a b. a || b) h.0 (each_any f g xs h.1)
+
+  -- nothing more is refused of another job
+  pub doubted_same : (bounds : List Amount) (k : Job) (s : Suspect) → IsOther k → IsSuspectOf old saw bounds k s → IsSuspectOf new sees bounds k s
+  doubted_same bounds k s other are =
+      record {
+        unmarked = λ e.
+            each_any (is_marked_in new) (is_marked_in old) (out_paths k.recipe)
+            (each_of IsFree (λ p. is_marked_in new p ≡ is_marked_in old p) (λ p free. ap (test_some (λ (x : Entry). x.marked)) (same.known p free))
+            (out_paths k.recipe) other)
+            ∙ are.unmarked e;
+        unguarded = λ e.
+            each_any (is_guarded_in sees) (is_guarded_in saw) (out_paths k.recipe)
+            (each_of IsFree (λ p. is_guarded_in sees p ≡ is_guarded_in saw p) (λ p free. ap (test_some (λ (x : Sight). x.guarded)) (same.seen p free))
+            (out_paths k.recipe) other)
+            ∙ are.unguarded e;
+        within = are.within;
+      }
 
 -- ## Outputs that lie apart
 
@@ -364,32 +376,3 @@ pub is_other :
 is_other jobs m n k j apart other at it =
     subst (λ ps. Each (λ q. among ps q ≡ false) (out_paths k.recipe)) (by_outs (λ (o : Out). o.path) j.recipe)
     (none_shared (out_paths j.recipe) (out_paths k.recipe) (outputs_apart jobs m n k j apart other at it))
-
--- ## The facts of jobs with outputs that lie apart
-
--- Once what is known and seen has changed at the outputs of the job of this number alone, and whether a job is forced has changed for that job alone, the facts of
--- all jobs are those that were renewed.
-pub renewed_are :
-    (old new : List Known) (saw sees : List Sight) (told : Path → Bool) (forced after : Job → Bool) (flag : Bool) (n : ℕ) (j : Job) (jobs : List Job) (facts : List JobFacts) →
-    AreSameBut (outs_of j.recipe) old new saw sees →
-    job_at jobs n ≡ Some j →
-    AreApart (outputs_of jobs) →
-    after j ≡ flag →
-    ((m : ℕ) (k : Job) → (m ≡ n → ⊥) → job_at jobs m ≡ Some k → after k ≡ forced k) →
-    facts ≡ map (facts_in old saw told forced) jobs →
-    renewed new sees told flag (outs_of j.recipe) n jobs facts ≡ map (facts_in new sees told after) jobs
-renewed_are old new saw sees told forced after flag n j jobs facts same it apart flagged others were =
-    ap (renewed new sees told flag (outs_of j.recipe) n jobs) were
-    ∙ all_are (outs_of j.recipe) old new saw sees same told forced after flag n 0 jobs (all_fit (outs_of j.recipe) old new saw sees same told forced after flag n 0 jobs fits)
-  where
-    by_number : (m : ℕ) (k : Job) → job_at jobs m ≡ Some k → (b : Bool) → (m == n) ≡ b → Fits (outs_of j.recipe) old new saw sees same told forced after flag b k
-    by_number m k at true e =
-        ap after (same_Some k j (sym at ∙ ap (job_at jobs) (eqb-true m n e) ∙ it)) ∙ flagged
-    by_number m k at false e =
-        let other = eqb-false m n e in
-        (is_other jobs m n k j apart other at it, others m k other at)
-
-    fits : (m : ℕ) (k : Job) → job_at jobs m ≡ Some k → Fits (outs_of j.recipe) old new saw sees same told forced after flag (0 + m == n) k
-    fits m k at =
-        let start : 0 + m ≡ m = omega arith in
-        subst (λ x. Fits (outs_of j.recipe) old new saw sees same told forced after flag (x == n) k) (sym start) (by_number m k at (m == n) refl)

@@ -20,11 +20,6 @@ use Rattle.smk_plan_live.specs.Now.{joined, entry_now, sight_now}
 
 -- ## A job begins or is closed
 
--- the element put in at the place, where there is one
-abbrev pub put_in : {A : Type 0} → List A → ℕ → Option A → List A
-put_in xs n None = xs
-put_in xs n (Some y) = slice_set xs n y
-
 -- the job has an output, by which it is named
 abbrev pub has_name : Job → Bool
 has_name j = is_some (first (out_paths j.recipe))

@@ -1,5 +1,6 @@
 pub mod Phases
 pub mod Sites
+pub mod Readers
 pub mod Now
 pub mod Same
 pub mod Carried

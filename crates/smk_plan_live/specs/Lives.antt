@@ -1,29 +1,37 @@
 -- What is true of each plan that is kept, whatever was called.
-use Rattle.std.specs.Prelude.{◌≡◌, Bool, true, false, List, [], map, length, Option, None}
-use Rattle.std.specs.List.{list_all}
+use Rattle.std.specs.Prelude.{◌≡◌, ℕ, Bool, true, false, List, [], map, length, Option, Some, None}
+use Rattle.std.specs.List.{list_all, slice_get, AllZip}
 use Rattle.std.specs.BTreeMap.{get_by_text}
 use Rattle.std.specs.BTreeSet.{contains_text}
 use Rattle.smk_world.specs.Trees.{Path, Each, among}
+use Rattle.smk_flow.specs.declared.job.Job.{Job}
 use Rattle.smk_store.specs.Images.{Image}
 use Rattle.smk_trigger.specs.declared.facts.JobFacts.{JobFacts}
-use Rattle.smk_trigger.specs.declared.reason.Reason.{Reason}
+use Rattle.smk_trigger.specs.declared.reason.State.{State}
 use Rattle.smk_trigger.specs.Reasons.{reasons_of}
 use Rattle.smk_pick.specs.declared.settings.Settings.{Settings}
 use Rattle.smk_plan.specs.declared.plan.Plan.{Plan as Told}
 use Rattle.smk_plan.specs.declared.fault.PlanFault.{PlanFault}
 use Rattle.smk_plan.specs.declared.wholes.Wholes.{Wholes}
-use Rattle.smk_plan.specs.States.{Progress}
-use Rattle.smk_plan_facts.specs.Facts.{told_sources}
-use Rattle.smk_plan_facts.specs.Telling.{facts_in, forced_by, has_path_texts, IsSorted, directories_of, wholes_in}
+use Rattle.smk_plan.specs.States.{Progress, test_some}
+use Rattle.smk_plan_facts.specs.Facts.{told_sources, IsMade}
+use Rattle.smk_plan_facts.specs.Telling.{facts_in, forced_by, has_path_texts, IsSorted, directories_of, is_told_whole, outputs_in, wholes_in}
 use Rattle.smk_plan_states.specs.Served.{AreServed}
 use Rattle.smk_plan_states.specs.Judged.{Judging, any_held_back}
+use Rattle.smk_plan_states.specs.Rows.{lent}
+use Rattle.smk_plan_states.specs.Tables.{IsTableOf}
+use Rattle.smk_plan_table.specs.declared.suspects.Suspect.{Suspect}
+use Rattle.smk_plan_table.specs.Parts.{IsSuspectOf}
 use Rattle.smk_plan_table.specs.Plans.{HasMadeAt, IsRefusedAt}
 use Rattle.smk_plan_live.specs.declared.base.Base.{Base}
+use Rattle.smk_plan_live.specs.declared.flags.Flags.{Flags}
+use Rattle.smk_plan_live.specs.declared.lending.Lent.{Lent}
 use Rattle.smk_plan_live.specs.declared.live.LivePlan.{LivePlan}
 use Rattle.smk_plan_live.specs.Agreeing.{AgreesNow}
-use Rattle.smk_plan_live.specs.Phases.{begun_in, progress_in}
+use Rattle.smk_plan_live.specs.Carried.{has_name}
+use Rattle.smk_plan_live.specs.Phases.{begun_in, has_begun, progress_in}
 use Rattle.smk_plan_live.specs.Sites.{site_in}
-use Rattle.smk_plan_live.specs.Same.{merged}
+use Rattle.smk_plan_live.specs.Same.{readers_of}
 use Rattle.smk_plan_live.specs.Now.{known_now, seen_now}
 
 -- what has begun, and what runs with the states at their beginning
@@ -73,23 +81,40 @@ abbrev pub AreWhole : Base → Wholes → Type 0
 AreWhole b wholes =
     Each (Each (IsSorted (seen_now b))) (map (directories_of (known_now b) (seen_now b)) b.jobs.jobs) → wholes ≡ wholes_in (known_now b) (seen_now b) b.jobs
 
--- The jobs are judged by these facts: those of what is known and was seen now; these are the reasons by them; and it is told which jobs are forced.
-pub record AreJudgedBy (settings : Settings) (b : Base) (facts : List JobFacts) (reasons : List (List Reason)) (forced : List Bool) : Type 0 where
-  pub sound : IsSound b
-  pub texts : list_all has_path_texts b.jobs.jobs ≡ true
-  pub facts_are : AreServed b.jobs settings.targets → facts ≡ facts_now settings b
-  pub told : reasons ≡ map reasons_of facts
-  pub flags : forced ≡ map (λ (f : JobFacts). f.forced) facts
+-- ## Flags
 
--- With these new ones the facts are those of what is known and was seen now, and these were the reasons by the old ones.
-pub record IsSettled (settings : Settings) (b : Base) (facts : List JobFacts) (reasons : List (List Reason)) (news : List (Option JobFacts)) : Type 0 where
+-- for each maker it is told whether its path is whole by what is known and was seen now, as what the job makes there that is told to make it
+abbrev pub AreMakersWhole : Base → List Bool → Type 0
+AreMakersWhole b flags =
+    AllZip
+    (λ m f. IsMade b.jobs.jobs m → f ≡ is_told_whole (seen_now b) (map (directories_of (known_now b) (seen_now b)) b.jobs.jobs) m)
+    b.jobs.makers flags
+
+-- What is kept as flags is so by what is known and was seen now: what is whole, and of which jobs nothing is refused.
+pub record AreFlagsNow (settings : Settings) (b : Base) (flags : Flags) : Type 0 where
+  pub outputs : flags.outputs ≡ map (outputs_in (known_now b) (seen_now b)) b.jobs.jobs
+  pub makers : AreMakersWhole b flags.makers
+  pub suspects : AllZip (IsSuspectOf (known_now b) (seen_now b) settings.bounds) b.jobs.jobs flags.suspects
+
+-- Each job that has begun, and each whose child runs, has an output to be named by.
+pub record AreNamed (b : Base) : Type 0 where
+  pub begun : (n : ℕ) (j : Job) → slice_get b.jobs.jobs n ≡ Some j → test_some has_begun (slice_get b.phases n) ≡ true → has_name j ≡ true
+  pub running : (n : ℕ) (j : Job) (s : State) → slice_get b.jobs.jobs n ≡ Some j → slice_get b.began n ≡ Some (Some s) → has_name j ≡ true
+
+-- What is lent of the jobs is so by what is known and was seen now: which outputs, and which of the makers' paths, are whole, their reasons and which are forced;
+-- and nothing is refused of them that isn't suspected.
+pub record AreLentNow (settings : Settings) (b : Base) (rows : Lent) (makers : List Bool) (suspects : List Suspect) : Type 0 where
   pub sound : IsSound b
+  pub named : AreNamed b
   pub texts : list_all has_path_texts b.jobs.jobs ≡ true
-  pub told : reasons ≡ map reasons_of facts
-  pub facts_are : AreServed b.jobs settings.targets → merged facts news ≡ facts_now settings b
+  pub outputs : lent rows.outputs.items ≡ map (outputs_in (known_now b) (seen_now b)) b.jobs.jobs
+  pub whole : AreMakersWhole b makers
+  pub reasons : lent rows.reasons.items ≡ map reasons_of (facts_now settings b)
+  pub forced : rows.forced.items ≡ map (λ (f : JobFacts). f.forced) (facts_now settings b)
+  pub doubted : AllZip (IsSuspectOf (known_now b) (seen_now b) settings.bounds) b.jobs.jobs suspects
 
 -- What is true of each plan that is kept: its base is sound; there is a state for each job, and it is told of each target whether it is current; the jobs are
--- judged by what is known and was seen now; and what it tells is by the definitions.
+-- judged by what is known and was seen now; what it tells is by the definitions; and what it keeps by numbers is so.
 pub record IsLive (p : LivePlan) : Type 0 where
   pub sound : IsSound p.base
   -- each input of a job is a path
@@ -99,3 +124,7 @@ pub record IsLive (p : LivePlan) : Type 0 where
   pub facts : AreServed p.base.jobs p.settings.targets → p.facts.items ≡ facts_now p.settings p.base
   pub reasons : p.reasons.items ≡ map reasons_of p.facts.items
   pub now : IsNow p.settings p.base p.plan p.held
+  pub table : IsTableOf p.base.jobs p.settings.targets p.table
+  pub flags : AreServed p.base.jobs p.settings.targets → AreFlagsNow p.settings p.base p.flags
+  pub readers : AreServed p.base.jobs p.settings.targets → p.readers.items ≡ readers_of p.base.jobs.jobs
+  pub named : AreNamed p.base

@@ -1,17 +1,20 @@
 -- What is known and seen at any path but some outputs, and the facts of jobs that are told anew once it has changed at these alone.
-use Rattle.std.specs.Prelude.{◌≡◌, ℕ, suc, Bool, false, ◌==◌, List, [], ◌∷◌, map, if◌then◌else◌, Option, Some, None}
-use Rattle.std.specs.List.{list_any}
+use Rattle.std.specs.Prelude.{◌≡◌, ℕ, suc, Bool, false, ◌==◌, List, [], ◌∷◌, ◌++◌, map, slice_set, if◌then◌else◌, Option, Some, None}
+use Rattle.std.specs.List.{flat_map, list_any, slice_get}
 use Rattle.smk_base.specs.Path.{is_at_or_under}
 use Rattle.smk_world.specs.declared.recipe.Out.{Out}
 use Rattle.smk_world.specs.World.{in_paths}
-use Rattle.smk_world.specs.Trees.{Path, among}
+use Rattle.smk_world.specs.Trees.{Path, among, outs_of}
 use Rattle.smk_record.specs.declared.record.Stamp.{Stamp}
 use Rattle.smk_flow.specs.declared.job.Job.{Job}
 use Rattle.smk_store.specs.Stores.{Known, entry_of}
 use Rattle.smk_trigger.specs.declared.facts.JobFacts.{JobFacts}
+use Rattle.smk_trigger.specs.declared.reason.Reason.{Reason}
+use Rattle.smk_trigger.specs.Reasons.{reasons_of}
 use Rattle.smk_plan.specs.declared.seen.Sight.{Sight}
 use Rattle.smk_plan.specs.Sights.{sight_at}
 use Rattle.smk_plan_facts.specs.Telling.{copied, stamp_in, facts_in}
+use Rattle.smk_plan_live.specs.declared.renewing.Renewed.{Renewed}
 
 -- ## Outputs
 
@@ -33,15 +36,10 @@ pub record AreSameBut (outs : List Out) (old new : List Known) (saw sees : List 
 
 -- ## Lists of which some elements are new
 
-abbrev pub or_old : {A : Type 0} → Option A → A → A
-or_old None x = x
-or_old (Some y) x = y
-
--- the elements, but for those in whose place another one is given
-abbrev pub merged : {A : Type 0} → List A → List (Option A) → List A
-merged [] news = []
-merged (x ∷ xs) [] = x ∷ merged xs []
-merged (x ∷ xs) (n ∷ news) = or_old n x ∷ merged xs news
+-- the elements, once each of these was put in at its number
+abbrev pub put_each : {A : Type 0} → List A → List (ℕ × A) → List A
+put_each xs [] = xs
+put_each xs (e ∷ news) = put_each (slice_set xs e.0 e.1) news
 
 -- ## Facts that are told anew
 
@@ -66,18 +64,42 @@ user_facts known seen told outs f =
       forced = f.forced;
     }
 
--- the new facts of a job, where it is the one whose outputs these are, forced or not, or reads at or under one of them
-abbrev pub renewed_of : List Known → List Sight → (Path → Bool) → Bool → List Out → Bool → Job → JobFacts → Option JobFacts
-renewed_of known seen told forced outs is_it k f =
-    if is_it then Some (facts_in known seen told (λ x. forced) k) else if is_user outs k then Some (user_facts known seen told outs f) else None
+-- ## What is new
 
--- those of each job, the first of which has the number i; n is the number of the one whose outputs these are
-abbrev pub renewed_from : List Known → List Sight → (Path → Bool) → Bool → List Out → ℕ → ℕ → List Job → List JobFacts → List (Option JobFacts)
-renewed_from known seen told forced outs n i [] facts = []
-renewed_from known seen told forced outs n i (k ∷ jobs) [] = []
-renewed_from known seen told forced outs n i (k ∷ jobs) (f ∷ facts) =
-    renewed_of known seen told forced outs (i == n) k f ∷ renewed_from known seen told forced outs n (suc i) jobs facts
+-- what is new of the job of the number, where these are its facts now
+abbrev pub renewed : ℕ → JobFacts → Renewed
+renewed m f = record { number = m; facts = f; reasons = reasons_of f }
 
--- the facts of all jobs, of which those are new
-abbrev pub renewed : List Known → List Sight → (Path → Bool) → Bool → List Out → ℕ → List Job → List JobFacts → List JobFacts
-renewed known seen told forced outs n jobs facts = merged facts (renewed_from known seen told forced outs n 0 jobs facts)
+-- the same of the job of the number m that reads at or under one of the outputs, by the facts that it had, if it is there
+abbrev pub user_news : List Known → List Sight → (Path → Bool) → List Out → ℕ → Option JobFacts → List Renewed
+user_news known seen told outs m None = []
+user_news known seen told outs m (Some f) = renewed m (user_facts known seen told outs f) ∷ []
+
+-- the same, unless that is the job of the number n itself
+abbrev pub reader_news : List Known → List Sight → (Path → Bool) → List Out → ℕ → List JobFacts → ℕ → List Renewed
+reader_news known seen told outs n facts m = if m == n then [] else user_news known seen told outs m (slice_get facts m)
+
+-- the same of these readers, and of the job itself, forced or not
+abbrev pub all_news : List Known → List Sight → (Path → Bool) → Bool → ℕ → Job → List JobFacts → List ℕ → List Renewed
+all_news known seen told forced n j facts readers =
+    flat_map (reader_news known seen told (outs_of j.recipe) n facts) readers ++ renewed n (facts_in known seen told (λ x. forced) j) ∷ []
+
+abbrev pub numbered_facts : Renewed → ℕ × JobFacts
+numbered_facts r = (r.number, r.facts)
+
+abbrev pub numbered_reasons : Renewed → ℕ × List Reason
+numbered_reasons r = (r.number, r.reasons)
+
+abbrev pub numbered_force : Renewed → ℕ × Bool
+numbered_force r = (r.number, r.facts.forced)
+
+-- ## Readers
+
+-- the numbers of the jobs that read at or under one of these outputs; the first of the jobs has the number n
+abbrev pub users_from : List Out → ℕ → List Job → List ℕ
+users_from outs n [] = []
+users_from outs n (k ∷ jobs) = (if is_user outs k then n ∷ [] else []) ++ users_from outs (suc n) jobs
+
+-- for each job those that read at or under one of its outputs
+abbrev pub readers_of : List Job → List (List ℕ)
+readers_of jobs = map (λ (j : Job). users_from (outs_of j.recipe) 0 jobs) jobs

@@ -1,5 +1,5 @@
 -- What is told anew of a base: of all jobs, or once what is known and seen has changed at the outputs of one.
-use Rattle.std.specs.Prelude.{◌≡◌, Bool, true, ℕ, List, map, length, Option, Some, option_map}
+use Rattle.std.specs.Prelude.{◌≡◌, Bool, true, ℕ, List, [], map, length, slice_set, Option, Some, None}
 use Rattle.std.specs.List.{list_all, slice_get}
 use Rattle.std.specs.BTreeSet.{contains_text}
 use Rattle.smk_world.specs.Trees.{Path, outs_of}
@@ -7,53 +7,105 @@ use Rattle.smk_world.specs.World.{out_paths}
 use Rattle.smk_flow.specs.declared.job.Job.{Job}
 use Rattle.smk_store.specs.declared.store.Entry.{Entry}
 use Rattle.smk_trigger.specs.declared.facts.JobFacts.{JobFacts}
-use Rattle.smk_trigger.specs.declared.reason.Reason.{Reason}
 use Rattle.smk_trigger.specs.Reasons.{reasons_of}
 use Rattle.smk_trigger.specs.declared.reason.State.{State}
 use Rattle.smk_pick.specs.declared.settings.Settings.{Settings}
 use Rattle.smk_plan.specs.declared.seen.Sight.{Sight}
-use Rattle.smk_plan_facts.specs.Telling.{has_path_texts}
+use Rattle.smk_plan_facts.specs.Telling.{flags_but, forced_by, has_path_texts, is_made_of, outputs_in}
+use Rattle.smk_plan_states.specs.Served.{AreServed}
+use Rattle.smk_plan_states.specs.Tables.{IsTableOf}
+use Rattle.smk_plan_table.specs.declared.suspects.Suspect.{Suspect}
+use Rattle.smk_plan_table.specs.Parts.{IsSuspectOf}
 use Rattle.smk_plan_live.specs.declared.base.Base.{Base}
 use Rattle.smk_plan_live.specs.declared.beginning.Start.{Start}
 use Rattle.smk_plan_live.specs.declared.live.LivePlan.{LivePlan}
+use Rattle.smk_plan_live.specs.declared.new.Kept.{Kept}
 use Rattle.smk_plan_live.specs.declared.new.Told.{Told}
+use Rattle.smk_plan_live.specs.declared.next.Change.{Change}
 use Rattle.smk_plan_live.specs.declared.next.Next.{Next}
+use Rattle.smk_plan_live.specs.declared.renewing.Renewed.{Renewed}
 use Rattle.smk_plan_live.specs.declared.spending.Loss.{Loss}
+use Rattle.smk_plan_live.specs.declared.phase.Phase.{Phase}
 use Rattle.smk_plan_live.specs.declared.phase.Phase.TheVariants.{Running}
 use Rattle.smk_plan_live.specs.Now.{known_now, seen_now}
-use Rattle.smk_plan_live.specs.Same.{renewed_from}
+use Rattle.smk_plan_live.specs.Same.{AreSameBut, all_news, readers_of}
 use Rattle.smk_plan_live.specs.Carried.{begun_entries, gone_sights, has_name, sight_but}
-use Rattle.smk_plan_live.specs.Lives.{IsLive, IsNow, IsSettled, IsSound, facts_now}
+use Rattle.smk_plan_live.specs.Lives.{AreFlagsNow, AreNamed, IsLive, IsNow, IsSound, facts_now}
+use Rattle.smk_plan_live.specs.Phases.{begun_in}
 
 -- ## All jobs
 
--- This is what the jobs are judged by now, what was judged of them, and the plan by it.
-pub record IsToldAnew (settings : Settings) (b : Base) (told : Told) : Type 0 where
-  pub facts : told.facts.items ≡ facts_now settings b
-  pub reasons : told.reasons.items ≡ map reasons_of told.facts.items
+-- This is what is kept of all jobs: what they are judged by now, what was judged of them, how their paths hang together, and what is so of them as flags.
+pub record IsKept (settings : Settings) (b : Base) (kept : Kept) : Type 0 where
+  pub facts : kept.facts.items ≡ facts_now settings b
+  pub reasons : kept.reasons.items ≡ map reasons_of kept.facts.items
   pub texts : list_all has_path_texts b.jobs.jobs ≡ true
+  pub table : IsTableOf b.jobs settings.targets kept.table
+  pub flags : AreFlagsNow settings b kept.flags
+  pub readers : IsSound b → AreServed b.jobs settings.targets → kept.readers.items ≡ readers_of b.jobs.jobs
+
+-- The same, and the plan by it.
+pub record IsToldAnew (settings : Settings) (b : Base) (told : Told) : Type 0 where
+  pub kept : IsKept settings b told.kept
   pub each : length told.plan.states ≡ length b.jobs.jobs
   pub targets : length told.plan.current ≡ length settings.targets
-  pub now : IsSound b → IsNow settings b told.plan told.held
+  pub now : IsSound b → AreNamed b → IsNow settings b told.plan told.held
 
 -- ## One job
 
--- the facts that are new once what is known and seen has changed at the outputs of the job, whose number is n and which is forced or not
-abbrev pub renewed_at : Base → ℕ → Bool → Job → List JobFacts → List (Option JobFacts)
-renewed_at b n forced j facts = renewed_from (known_now b) (seen_now b) (contains_text b.sources) forced (outs_of j.recipe) n 0 b.jobs.jobs facts
+-- The base has changed at the outputs of the job of the number n alone, which is forced or not from now on; other jobs are as forced as they were.
+pub record IsChanged (settings : Settings) (old new : Base) (n : ℕ) (forced : Bool) : Type 0 where
+  pub sound : IsSound new
+  pub named : AreNamed new
+  pub same : (j : Job) → slice_get new.jobs.jobs n ≡ Some j → AreSameBut (outs_of j.recipe) (known_now old) (known_now new) (seen_now old) (seen_now new)
+  pub its : AreServed new.jobs settings.targets → (j : Job) → slice_get new.jobs.jobs n ≡ Some j → forced_by settings (begun_in new.jobs.jobs new.phases) j ≡ forced
+  pub others :
+      AreServed new.jobs settings.targets → (m : ℕ) (k : Job) → (m ≡ n → ⊥) → slice_get new.jobs.jobs m ≡ Some k →
+      forced_by settings (begun_in new.jobs.jobs new.phases) k ≡ forced_by settings (begun_in old.jobs.jobs old.phases) k
 
--- With these the facts are those of what is known and was seen now.
-abbrev pub IsSettledAt : Settings → Base → ℕ → Bool → List JobFacts → List (List Reason) → Type 0
-IsSettledAt settings b n forced facts reasons =
-    (j : Job) → slice_get b.jobs.jobs n ≡ Some j → IsSettled settings b facts reasons (renewed_at b n forced j facts)
+-- the jobs have come so far, and this is what is known and was seen of their outputs
+abbrev pub moved : List Phase → List (Option State) → List (Option (List (Option Entry))) → List (Option (List (Option Sight))) → Base → Base
+moved phases began entries sights b = record b { phases = phases; began = began; entries = entries; sights = sights }
 
--- This is new where these were the facts and the reasons by them: those facts, what was judged of them, and the plan by it.
-pub record IsNext (settings : Settings) (b : Base) (n : ℕ) (forced : Bool) (were : List JobFacts) (said : List (List Reason)) (next : Next) : Type 0 where
-  pub facts : (j : Job) → slice_get b.jobs.jobs n ≡ Some j → next.facts.items ≡ renewed_at b n forced j were
-  pub reasons : next.reasons.items ≡ map (option_map reasons_of) next.facts.items
-  pub each : length next.plan.states ≡ length b.jobs.jobs
-  pub targets : length next.plan.current ≡ length settings.targets
-  pub now : IsSettled settings b were said next.facts.items → IsNow settings b next.plan next.held
+-- The base of the plan has changed so already, and all else of it is as it was before that.
+pub record IsAhead (p : LivePlan) (n : ℕ) (forced : Bool) : Type 0 where
+  pub phases : List Phase
+  pub began : List (Option State)
+  pub entries : List (Option (List (Option Entry)))
+  pub sights : List (Option (List (Option Sight)))
+  pub live : IsLive (record p { base = moved phases began entries sights p.base })
+  pub changed : IsChanged p.settings (moved phases began entries sights p.base) p.base n forced
+
+-- the facts that are new once what is known and seen has changed at the outputs of the job, whose number is n and which is forced or not; these are its readers
+abbrev pub renewed_at : Base → ℕ → Bool → Job → List JobFacts → List ℕ → List Renewed
+renewed_at b n forced j facts readers = all_news (known_now b) (seen_now b) (contains_text b.sources) forced n j facts readers
+
+abbrev pub or_no_numbers : Option (List ℕ) → List ℕ
+or_no_numbers None = []
+or_no_numbers (Some row) = row
+
+-- the numbers of the readers of the job of the number n
+abbrev pub readers_at : List (List ℕ) → ℕ → List ℕ
+readers_at readers n = or_no_numbers (slice_get readers n)
+
+-- This is told anew of the job of the number n, which is forced or not, and of its readers; and all of what is so of jobs as flags.
+pub record IsChangeOf (p : LivePlan) (n : ℕ) (forced : Bool) (change : Change) : Type 0 where
+  pub number : change.number ≡ n
+  pub job : Job
+  pub is : slice_get p.base.jobs.jobs n ≡ Some job
+  pub news : change.news.items ≡ renewed_at p.base n forced job p.facts.items (readers_at p.readers.items n)
+  pub outputs : change.outputs ≡ outputs_in (known_now p.base) (seen_now p.base) job
+  pub makers : change.makers ≡ flags_but (is_made_of (known_now p.base) (seen_now p.base) job) n p.base.jobs.makers p.flags.makers
+  pub suspect : Suspect
+  pub doubted : IsSuspectOf (known_now p.base) (seen_now p.base) p.settings.bounds job suspect
+  pub suspects : change.suspects.items ≡ slice_set p.flags.suspects n suspect
+
+-- This is new where the base of the plan has changed at the outputs of the job of the number n, which is forced or not: what is told anew, and the plan by it.
+pub record IsNext (p : LivePlan) (n : ℕ) (forced : Bool) (next : Next) : Type 0 where
+  pub change : IsChangeOf p n forced next.change
+  pub each : length next.plan.states ≡ length p.base.jobs.jobs
+  pub targets : length next.plan.current ≡ length p.settings.targets
+  pub now : IsAhead p n forced → IsNow p.settings p.base next.plan next.held
 
 -- ## A job that is closed
 

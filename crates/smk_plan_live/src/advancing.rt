@@ -3,10 +3,9 @@
 ghost use Rattle.std.specs.Prelude.{◌≡◌, ◌≢◌, ◌<◌, length, slice_index_or, false, OnOk, OnErr, IfErr};
 ghost use Rattle.smk_plan_live.specs.Lives.{IsLive, IsRefusedNow};
 ghost use Rattle.smk_plan_live.specs.Carried.{advanced, turned};
-ghost use Rattle.smk_plan_live.specs.Steps.{IsSettledAt};
+ghost use Rattle.smk_plan_live.specs.Steps.{IsChanged};
 
 use crate::base::Base;
-use crate::next::next_of;
 use crate::rows::Rows;
 use crate::{LivePlan, Phase};
 use smk_plan::PlanFault;
@@ -44,8 +43,7 @@ impl LivePlan {
     ) -> Result<(), PlanFault>
         requires live { IsLive self.old }
         requires within { number < length self.old.base.jobs.jobs }
-        requires settled { IsSettledAt self.old.settings (advanced number phase state rows.entries rows.sights self.old.base) number false
-            self.old.facts.items self.old.reasons.items }
+        requires changed { IsChanged self.old.settings self.old.base (advanced number phase state rows.entries rows.sights self.old.base) number false }
         ensures live { IsLive self.new }
         ensures ok { OnOk result ((self.new.settings ≡ self.old.settings)
             × (self.new.base ≡ advanced number phase state rows.entries rows.sights self.old.base)) }
@@ -56,25 +54,13 @@ impl LivePlan {
         let Rows { entries, sights } = rows;
         let (before, was) = self.base.turn(number, phase, state);
         let (earlier, saw) = self.base.fill(number, Some(entries), Some(sights));
-        match next_of(
-            alloc,
-            number,
-            false,
-            &self.base,
-            &self.settings,
-            self.facts.as_slice(),
-            self.reasons.as_slice(),
-            judge,
-        ) {
+        match self.settle(alloc, number, false, judge) {
             Err(fault) => {
                 self.base.fill(number, earlier, saw);
                 self.base.turn(number, before, was);
                 Err(fault)
             }
-            Ok(next) => {
-                self.install(next);
-                Ok(())
-            }
+            Ok(()) => Ok(()),
         }
     }
 }

@@ -42,8 +42,9 @@ fn rows_of(alloc: Global, entries: List<Entry>, sights: List<Sight>) -> Result<R
 impl LivePlan {
     /// The job is closed: it was finished or abandoned, and these are now what is known and what is seen of its outputs, one for each output, in their order.
     ///
-    /// The judge is asked once about the closed job and once about each job that reads at or under an output of it, and about no other. The plan is told anew of all
-    /// jobs, and what is whole too, so the time is linear in the jobs and what they read and make.
+    /// The judge is asked once about the closed job and once about each job that reads at or under an output of it, and about no other. What is whole is told anew of
+    /// the closed job alone. The plan is told anew of all jobs, by the numbers and flags that are kept, so the time is linear in the jobs and what they read and make,
+    /// with no look-up by path but for those few jobs.
     ///
     /// A source that these entries have with a SHA-256 and another time than it was seen with counts as updated until a sight with its digest comes.
     ///

@@ -1,7 +1,7 @@
 //! How new jobs come.
 
 ghost use Rattle.std.specs.Prelude.{◌≡◌, ◌≢◌, IfOk, IfErr, OnOk, OnErr};
-ghost use Rattle.smk_plan_live.specs.Lives.{IsLive, IsSound, IsRefusedNow};
+ghost use Rattle.smk_plan_live.specs.Lives.{AreNamed, IsLive, IsSound, IsRefusedNow};
 ghost use Rattle.smk_plan_live.specs.Carried.{with_seen};
 ghost use Rattle.smk_plan_live.specs.Changes.{IsGrownBut, HasGrown, IsRefusedGrown};
 
@@ -9,7 +9,7 @@ use crate::LivePlan;
 use crate::base::Base;
 use crate::carried::rows_from;
 use crate::later::late_of;
-use crate::new::told_of;
+use crate::new::{Kept, Told, told_of};
 use crate::sites::sited_of;
 use crate::slots::Slots;
 use smk_base::{List, OutOfMemory};
@@ -60,6 +60,7 @@ impl LivePlan {
     ) -> Result<(), PlanFault>
         requires live { IsLive self.old }
         requires sound { IsSound base }
+        requires named { AreNamed base }
         ensures live { IsLive self.new }
         ensures ok { OnOk result ((self.new.base ≡ with_seen self.old.base.seen base) × (self.new.settings ≡ self.old.settings)) }
         ensures err { OnErr result (self.new ≡ self.old) }
@@ -73,11 +74,22 @@ impl LivePlan {
                 Err(fault)
             }
             Ok(told) => {
+                let Told { kept, plan, held } = told;
+                let Kept {
+                    facts,
+                    reasons,
+                    table,
+                    flags,
+                    readers,
+                } = kept;
                 self.base = next;
-                self.facts = told.facts;
-                self.reasons = told.reasons;
-                self.plan = told.plan;
-                self.held = told.held;
+                self.facts = facts;
+                self.reasons = reasons;
+                self.plan = plan;
+                self.held = held;
+                self.table = table;
+                self.flags = flags;
+                self.readers = readers;
                 Ok(())
             }
         }

@@ -1,10 +1,9 @@
 //! What was judged of jobs.
 
-ghost use Rattle.std.specs.Prelude.{◌≡◌, map, option_map, IfOk};
-ghost use Rattle.smk_trigger.specs.Reasons.{reasons_of};
+ghost use Rattle.std.specs.Prelude.{◌≡◌, IfOk};
 
 use smk_base::{List, OutOfMemory};
-use smk_trigger::{JobFacts, Judge, Reason};
+use smk_trigger::Reason;
 use std::alloc::Global;
 
 // A copy of the reason.
@@ -33,51 +32,4 @@ pub(crate) fn reasons_again(alloc: Global, reasons: &[Reason]) -> Result<List<Re
         copy.push(reason_again(alloc, reason)?)?;
     }
     Ok(copy)
-}
-
-/// A copy of the reasons of each job.
-pub(crate) fn all_again(
-    alloc: Global,
-    reasons: &[List<Reason>],
-) -> Result<List<List<Reason>>, OutOfMemory>
-    ensures { IfOk result (λ copy. copy ≡ reasons.now) }
-{
-    let mut copy = List::new(alloc);
-    for own in reasons {
-        copy.push(reasons_again(alloc, own.as_slice())?)?;
-    }
-    Ok(copy)
-}
-
-// What the judge says of the facts, where there are new ones.
-fn judge_one<J: Judge>(
-    alloc: Global,
-    judge: &J,
-    facts: &Option<JobFacts>,
-) -> Result<Option<List<Reason>>, OutOfMemory>
-    ensures { IfOk result (λ found. found ≡ option_map reasons_of facts.now) }
-{
-    match facts {
-        None => Ok(None),
-        Some(facts) => {
-            let found = judge.judge(alloc, facts)?;
-            Ok(Some(found))
-        }
-    }
-}
-
-/// What the judge says of each of the new facts. It is asked once about each, and nothing else.
-pub(crate) fn judge_each<J: Judge>(
-    alloc: Global,
-    judge: &J,
-    facts: &[Option<JobFacts>],
-) -> Result<Vec<Option<List<Reason>>>, OutOfMemory>
-    ensures { IfOk result (λ found. found.items ≡ map (option_map reasons_of) facts.now) }
-{
-    let mut found = Vec::new(alloc);
-    for one in facts {
-        let reasons = judge_one(alloc, judge, one)?;
-        found.push(reasons)?;
-    }
-    Ok(found)
 }

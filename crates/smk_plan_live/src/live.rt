@@ -8,11 +8,13 @@ ghost use Rattle.smk_plan_table.specs.Plans.{HasMadeAt};
 
 use crate::Phase;
 use crate::base::Base;
+use crate::flags::Flags;
 use crate::now::{entry_now, sight_now, site_of};
 use smk_base::{List, PathText};
 use smk_chain::Jobs;
 use smk_pick::Settings;
 use smk_plan::{Plan, Sight};
+use smk_plan_states::Table;
 use smk_store::Entry;
 use smk_trigger::{JobFacts, Reason, State};
 
@@ -26,10 +28,16 @@ pub struct LivePlan {
     pub(crate) plan: Plan,
     /// Whether some job is to be restored but counts as Clean.
     pub(crate) held: bool,
+    /// How the paths of the jobs and targets hang together.
+    pub(crate) table: Table,
+    pub(crate) flags: Flags,
+    /// For each job the numbers of those that read at or under one of its outputs, rising.
+    pub(crate) readers: Vec<List<usize>>,
 }
 
 impl LivePlan {
-    ghost use Rattle.smk_plan_live.specs.Lives.{IsLive, IsAgreed, facts_now, judging_of};
+    ghost use Rattle.smk_plan_live.specs.Lives.{IsLive, IsAgreed, AreMakersWhole, facts_now, judging_of};
+    ghost use Rattle.smk_plan_states.specs.Tables.{IsTableOf};
     ghost use Rattle.smk_plan_states.specs.Served.{AreServed};
     ghost use Rattle.smk_plan_live.specs.Now.{output_entry, sight_now};
 
@@ -100,6 +108,24 @@ impl LivePlan {
             → result ≡ any_held_back (judging_of image self.now.settings self.now.base) self.now.base.jobs self.now.plan.states }
     {
         self.held
+    }
+
+    /// How the paths of the jobs and targets hang together, by numbers. It takes no memory.
+    pub fn table(&self) -> &Table
+        ensures value { result.now ≡ self.now.table }
+        ensures now { IsLive self.now → IsTableOf self.now.base.jobs self.now.settings.targets result.now }
+    {
+        &self.table
+    }
+
+    /// For each maker of the jobs, in their order, whether its path is whole now: as an output of the job that is told to make it, or as a file of its directory.
+    /// It takes no memory.
+    pub fn makers_whole(&self) -> &[bool]
+        ensures value { result.now ≡ self.now.flags.makers }
+        ensures now { IsLive self.now → AreServed self.now.base.jobs self.now.settings.targets
+            → AreMakersWhole self.now.base result.now }
+    {
+        self.flags.makers.as_slice()
     }
 
     /// What is known of an output of the jobs: what the last closing of its job gave, or else what the store of the call that brought the job has. None where the

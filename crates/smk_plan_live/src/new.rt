@@ -1,47 +1,59 @@
 //! How a kept plan begins.
 
-ghost use Rattle.std.specs.Prelude.{◌≡◌, ◌≢◌, [], map, true, None, IfOk, IfErr};
+ghost use Rattle.std.specs.Prelude.{◌≡◌, ◌≢◌, [], length, map, true, None, IfOk, IfErr};
 ghost use Rattle.std.specs.List.{list_all};
 ghost use Rattle.smk_store.specs.Images.{Image};
 ghost use Rattle.smk_trigger.specs.Reasons.{reasons_of};
 ghost use Rattle.smk_plan_facts.specs.Telling.{has_path_texts};
 ghost use Rattle.smk_plan_table.specs.Plans.{Agree, IsRefused};
-ghost use Rattle.smk_plan_live.specs.Lives.{IsLive, IsAgreed, IsSound, IsRefusedNow, facts_now};
-ghost use Rattle.smk_plan_live.specs.Steps.{IsToldAnew};
+ghost use Rattle.smk_plan_live.specs.Lives.{AreFlagsNow, AreNamed, IsLive, IsAgreed, IsNow, IsSound, IsRefusedNow, facts_now};
+ghost use Rattle.smk_plan_live.specs.Steps.{IsKept, IsToldAnew};
 ghost use Rattle.smk_plan_live.specs.Changes.{IsFirst};
 
 use crate::LivePlan;
 use crate::base::Base;
 use crate::carried::first_rows;
-use crate::judged::all_again;
+use crate::flags::Flags;
+use crate::lending::lend;
+use crate::readers::readers_of;
 use crate::sites::sited_of;
 use crate::slots::Slots;
-use crate::telling::{begun_of, tell};
+use crate::telling::{Made, begun_of, tell};
 use smk_base::{List, OutOfMemory};
 use smk_chain::Jobs;
 use smk_pick::Settings;
 use smk_plan::{Plan, PlanFault, Seen};
-use smk_plan_facts::{facts_told, forced_of};
+use smk_plan_facts::{all_outputs_told, facts_told, makers_told};
+use smk_plan_states::Table;
+use smk_plan_table::suspects_of;
 use smk_store::Store;
 use smk_trigger::{JobFacts, Plain, Reason, all_reasons};
 use std::alloc::Global;
 use std::collections::BTreeMap;
 use std::thread::Threads;
 
-// What the jobs are judged by and what was judged, with copies for the plan.
+// What the jobs are judged by and what was judged.
 #[derive(Drop)]
 struct Judged {
     facts: Vec<JobFacts>,
     reasons: Vec<List<Reason>>,
-    own: List<List<Reason>>,
-    forced: List<bool>,
+}
+
+/// What is kept of all jobs, besides their base: what they are judged by and what was judged, how their paths hang together, what is so of them as flags, and who
+/// reads what they make.
+#[derive(Drop)]
+pub(crate) struct Kept {
+    pub(crate) facts: Vec<JobFacts>,
+    pub(crate) reasons: Vec<List<Reason>>,
+    pub(crate) table: Table,
+    pub(crate) flags: Flags,
+    pub(crate) readers: Vec<List<usize>>,
 }
 
 /// The same with the plan by it, and whether a job is held back.
 #[derive(Drop)]
 pub(crate) struct Told {
-    pub(crate) facts: Vec<JobFacts>,
-    pub(crate) reasons: Vec<List<Reason>>,
+    pub(crate) kept: Kept,
     pub(crate) plan: Plan,
     pub(crate) held: bool,
 }
@@ -68,58 +80,94 @@ fn judge_jobs<Rt: Threads + Sync>(
 ) -> Result<Judged, OutOfMemory>
     ensures facts { IfOk result (λ judged. judged.facts.items ≡ facts_now settings.now base.now) }
     ensures reasons { IfOk result (λ judged. judged.reasons.items ≡ map reasons_of judged.facts.items) }
-    ensures own { IfOk result (λ judged. judged.own ≡ map reasons_of judged.facts.items) }
-    ensures forced { IfOk result (λ judged. judged.forced ≡ map (λ f. f.forced) judged.facts.items) }
     ensures texts { IfOk result (λ judged. list_all has_path_texts base.now.jobs.jobs ≡ true) }
 {
     let ran = begun_of(alloc, base.jobs.jobs.as_slice(), base.phases.as_slice())?;
     let told = facts_told(alloc, &base.jobs, base, settings, &ran)?;
     let own = all_reasons(rt, alloc, &told, &Plain)?;
     let facts = elements(alloc, told)?;
-    let forced = forced_of(alloc, facts.as_slice())?;
-    let copy = all_again(alloc, own.as_slice())?;
     let reasons = elements(alloc, own)?;
-    Ok(Judged {
-        facts,
-        reasons,
-        own: copy,
-        forced,
+    Ok(Judged { facts, reasons })
+}
+
+// What is whole of the jobs, and what may be refused of them.
+fn flags_of(alloc: Global, base: &Base, settings: &Settings) -> Result<Flags, OutOfMemory>
+    ensures { IfOk result (AreFlagsNow settings.now base.now) }
+{
+    let jobs = base.jobs.jobs.as_slice();
+    let outputs = all_outputs_told(alloc, base, jobs)?;
+    let makers = makers_told(alloc, base, &base.jobs)?;
+    let suspects = suspects_of(alloc, base, &settings.bounds, jobs)?;
+    Ok(Flags {
+        outputs: Slots::of(outputs),
+        makers,
+        suspects: Slots::of(suspects),
     })
 }
 
-// The same with the plan by it.
-fn told_by(
+// What is kept of all jobs.
+fn kept_of<Rt: Threads + Sync>(
+    rt: &Rt,
     alloc: Global,
     base: &Base,
     settings: &Settings,
-    judged: Judged,
-) -> Result<Told, PlanFault>
-    requires facts { judged.facts.items ≡ facts_now settings.now base.now }
-    requires reasons { judged.reasons.items ≡ map reasons_of judged.facts.items }
-    requires own { judged.own ≡ map reasons_of judged.facts.items }
-    requires forced { judged.forced ≡ map (λ f. f.forced) judged.facts.items }
-    requires texts { list_all has_path_texts base.now.jobs.jobs ≡ true }
-    ensures told { IfOk result (IsToldAnew settings.now base.now) }
-    ensures refused { IfErr result (λ fault. fault ≢ PlanFault.OutOfMemory → IsSound base.now → IsRefusedNow settings.now base.now fault) }
+) -> Result<Kept, OutOfMemory>
+    ensures { IfOk result (IsKept settings.now base.now) }
 {
-    let Judged {
-        facts,
-        reasons,
-        own,
-        forced,
-    } = judged;
-    match tell(alloc, base, settings, own, forced) {
+    let judged = judge_jobs(rt, alloc, base, settings)?;
+    let table = Table::of(alloc, &base.jobs, &settings.targets)?;
+    let flags = flags_of(alloc, base, settings)?;
+    let readers = readers_of(alloc, base)?;
+    Ok(Kept {
+        facts: judged.facts,
+        reasons: judged.reasons,
+        table,
+        flags,
+        readers,
+    })
+}
+
+// The plan by it, and whether a job is held back.
+fn tell_kept(
+    alloc: Global,
+    base: &Base,
+    settings: &Settings,
+    kept: &Kept,
+) -> Result<Made, PlanFault>
+    requires { IsKept settings.now base.now kept.now }
+    ensures each { IfOk result (λ made. length made.plan.states ≡ length base.now.jobs.jobs) }
+    ensures targets { IfOk result (λ made. length made.plan.current ≡ length settings.now.targets) }
+    ensures now { IfOk result (λ made. IsSound base.now → AreNamed base.now → IsNow settings.now base.now made.plan made.held) }
+    ensures refused { IfErr result (λ fault. fault ≢ PlanFault.OutOfMemory → IsSound base.now → AreNamed base.now → IsRefusedNow settings.now base.now fault) }
+{
+    let outputs = kept.flags.outputs.as_slice();
+    let reasons = kept.reasons.as_slice();
+    let facts = kept.facts.as_slice();
+    let makers = kept.flags.makers.as_slice();
+    let suspects = kept.flags.suspects.as_slice();
+    match lend(alloc, outputs, reasons, facts) {
+        Err(_) => Err(PlanFault::OutOfMemory),
+        Ok(rows) => tell(alloc, base, settings, &kept.table, &rows, makers, suspects),
+    }
+}
+
+// The same with the plan by it.
+fn told_by(alloc: Global, base: &Base, settings: &Settings, kept: Kept) -> Result<Told, PlanFault>
+    requires { IsKept settings.now base.now kept }
+    ensures told { IfOk result (IsToldAnew settings.now base.now) }
+    ensures refused { IfErr result (λ fault. fault ≢ PlanFault.OutOfMemory → IsSound base.now → AreNamed base.now → IsRefusedNow settings.now base.now fault) }
+{
+    match tell_kept(alloc, base, settings, &kept) {
         Err(fault) => Err(fault),
         Ok(made) => Ok(Told {
-            facts,
-            reasons,
+            kept,
             plan: made.plan,
             held: made.held,
         }),
     }
 }
 
-/// What all jobs are judged by, what the judge says of them, and the plan by it.
+/// What is kept of all jobs, and the plan by it. What they are judged by, and what the judge says of them, is told in several threads, where there are many.
 pub(crate) fn told_of<Rt: Threads + Sync>(
     rt: &Rt,
     alloc: Global,
@@ -127,11 +175,11 @@ pub(crate) fn told_of<Rt: Threads + Sync>(
     settings: &Settings,
 ) -> Result<Told, PlanFault>
     ensures told { IfOk result (IsToldAnew settings.now base.now) }
-    ensures refused { IfErr result (λ fault. fault ≢ PlanFault.OutOfMemory → IsSound base.now → IsRefusedNow settings.now base.now fault) }
+    ensures refused { IfErr result (λ fault. fault ≢ PlanFault.OutOfMemory → IsSound base.now → AreNamed base.now → IsRefusedNow settings.now base.now fault) }
 {
-    match judge_jobs(rt, alloc, base, settings) {
+    match kept_of(rt, alloc, base, settings) {
         Err(_) => Err(PlanFault::OutOfMemory),
-        Ok(judged) => told_by(alloc, base, settings, judged),
+        Ok(kept) => told_by(alloc, base, settings, kept),
     }
 }
 
@@ -164,21 +212,28 @@ fn over<Rt: Threads + Sync>(
     base: Base,
     settings: Settings,
 ) -> Result<LivePlan, PlanFault>
-    requires { IsSound base }
+    requires sound { IsSound base }
+    requires named { AreNamed base }
     ensures live { IfOk result IsLive }
     ensures so { IfOk result (λ p. (p.base ≡ base) × (p.settings ≡ settings)) }
     ensures refused { IfErr result (λ fault. fault ≢ PlanFault.OutOfMemory → IsRefusedNow settings base fault) }
 {
     match told_of(rt, alloc, &base, &settings) {
         Err(fault) => Err(fault),
-        Ok(told) => Ok(LivePlan {
-            base,
-            settings,
-            facts: told.facts,
-            reasons: told.reasons,
-            plan: told.plan,
-            held: told.held,
-        }),
+        Ok(told) => {
+            let Told { kept, plan, held } = told;
+            Ok(LivePlan {
+                base,
+                settings,
+                facts: kept.facts,
+                reasons: kept.reasons,
+                plan,
+                held,
+                table: kept.table,
+                flags: kept.flags,
+                readers: kept.readers,
+            })
+        }
     }
 }
 

@@ -1,136 +1,46 @@
 //! What is new as a job begins or is closed, and how it is put in.
 
-ghost use Rattle.std.specs.Prelude.{◌≡◌, ◌≢◌, ◌<◌, List as Items, map, length, option_map, Some, IfOk, IfErr};
-ghost use Rattle.smk_trigger.specs.declared.facts.JobFacts.{JobFacts as FactsValue};
-ghost use Rattle.smk_trigger.specs.Reasons.{reasons_of};
-ghost use Rattle.smk_plan_live.specs.Same.{or_old, merged};
-ghost use Rattle.smk_plan_live.specs.Carried.{put_in};
+ghost use Rattle.std.specs.Prelude.{◌≡◌, ◌≢◌, ◌<◌, map, length, slice_set, Some, IfOk, IfErr, OnOk, OnErr};
 ghost use Rattle.std.specs.List.{slice_get};
-ghost use Rattle.smk_flow.specs.declared.job.Job.{Job as JobValue};
-ghost use Rattle.smk_plan_live.specs.Lives.{AreJudgedBy, IsNow, IsRefusedNow};
-ghost use Rattle.smk_plan_live.specs.Steps.{IsNext, IsSettledAt, renewed_at};
+ghost use Rattle.smk_plan_states.specs.Tables.{IsTableOf};
+ghost use Rattle.smk_plan_live.specs.Lives.{IsLive, IsNow, IsRefusedNow};
+ghost use Rattle.smk_plan_live.specs.Same.{put_each, numbered_facts, numbered_reasons};
+ghost use Rattle.smk_plan_live.specs.Steps.{IsAhead, IsChangeOf, IsNext, readers_at};
 
 use crate::LivePlan;
-use crate::base::Base;
-use crate::judged::{judge_each, reasons_again};
-use crate::renewing::renewed_facts;
-use crate::telling::tell;
+use crate::lending::lend_with;
+use crate::renewing::{Renewed, news_of};
+use crate::slots::{Slots, put_at};
+use crate::telling::{Made, tell};
 use smk_base::{List, OutOfMemory};
 use smk_flow::Job;
-use smk_pick::Settings;
 use smk_plan::{Plan, PlanFault};
+use smk_plan_facts::{makers_again, outputs_told};
+use smk_plan_table::{Suspect, suspect_of};
 use smk_trigger::{JobFacts, Judge, Reason};
 use std::alloc::Global;
 
-// What is new of the facts and reasons of jobs; the reasons of each job, and which of them are forced.
+/// What is told anew once what is known and seen has changed at the outputs of one job.
 #[derive(Drop)]
-struct News {
-    facts: Vec<Option<JobFacts>>,
-    reasons: Vec<Option<List<Reason>>>,
-    own: List<List<Reason>>,
-    forced: List<bool>,
+pub(crate) struct Change {
+    /// The number of the job.
+    pub(crate) number: usize,
+    /// What is new of it and of its readers.
+    pub(crate) news: Vec<Renewed>,
+    /// For each of its outputs whether it is whole.
+    pub(crate) outputs: List<bool>,
+    /// For each maker of the jobs whether its path is whole.
+    pub(crate) makers: List<bool>,
+    /// For each job what may be refused of it.
+    pub(crate) suspects: Vec<Suspect>,
 }
 
-/// What is new once a job has begun or is closed.
+/// The same, and the plan with it.
 #[derive(Drop)]
 pub(crate) struct Next {
-    pub(crate) facts: Vec<Option<JobFacts>>,
-    pub(crate) reasons: Vec<Option<List<Reason>>>,
+    pub(crate) change: Change,
     pub(crate) plan: Plan,
     pub(crate) held: bool,
-}
-
-// The new reasons of a job, or else a copy of the old ones.
-fn reasons_or(
-    alloc: Global,
-    news: &Option<List<Reason>>,
-    old: &List<Reason>,
-) -> Result<List<Reason>, OutOfMemory>
-    ensures { IfOk result (λ found. found ≡ or_old news.now old.now) }
-{
-    match news {
-        None => reasons_again(alloc, old.as_slice()),
-        Some(found) => reasons_again(alloc, found.as_slice()),
-    }
-}
-
-// The reasons of each job, some of which are new.
-fn merged_reasons(
-    alloc: Global,
-    old: &[List<Reason>],
-    news: &[Option<List<Reason>>],
-) -> Result<List<List<Reason>>, OutOfMemory>
-    ensures { IfOk result (λ found. found ≡ merged old.now news.now) }
-{
-    let mut found = List::new(alloc);
-    let mut rest = news;
-    for own in old {
-        let Some((fresh, more)) = rest.split_first() else {
-            found.push(reasons_again(alloc, own.as_slice())?)?;
-            continue;
-        };
-        found.push(reasons_or(alloc, fresh, own)?)?;
-        rest = more;
-    }
-    Ok(found)
-}
-
-// Whether a job is forced by its new facts, or else by the old ones.
-fn forced_or(news: &Option<JobFacts>, old: &JobFacts) -> bool
-    ensures { result ≡ (or_old news.now old.now).forced }
-{
-    match news {
-        None => old.forced,
-        Some(facts) => facts.forced,
-    }
-}
-
-// Which jobs are forced, where some facts are new.
-fn merged_forced(
-    alloc: Global,
-    old: &[JobFacts],
-    news: &[Option<JobFacts>],
-) -> Result<List<bool>, OutOfMemory>
-    ensures { IfOk result (λ found. found ≡ map (λ f. f.forced) (merged old.now news.now)) }
-{
-    let mut found = List::new(alloc);
-    let mut rest = news;
-    for facts in old {
-        let Some((fresh, more)) = rest.split_first() else {
-            found.push(facts.forced)?;
-            continue;
-        };
-        found.push(forced_or(fresh, facts))?;
-        rest = more;
-    }
-    Ok(found)
-}
-
-// Puts the new element in, where there is one and it has a place.
-#[tactic(auto, using(crate::proofs::Merged::set_beyond))]
-fn put_at<T: Drop>(all: &mut Vec<T>, at: usize, news: Option<T>)
-    ensures { all.new.items ≡ put_in all.old.items at news }
-{
-    match news {
-        None => (),
-        Some(fresh) => {
-            if at < all.len() {
-                all[at] = fresh;
-            }
-        }
-    }
-}
-
-// Puts the new elements in.
-#[tactic(auto, using(crate::proofs::Merged::merged_put, crate::proofs::Merged::merged_none))]
-fn put_each<T: Drop>(all: &mut Vec<T>, news: Vec<Option<T>>)
-    ensures { all.new.items ≡ merged all.old.items news.items }
-{
-    let mut left = news;
-    'items: while let Some(fresh) = left.pop() {
-        let at = left.len();
-        put_at(all, at, fresh);
-    }
 }
 
 // The job of the number.
@@ -141,104 +51,222 @@ fn job_at(jobs: &[Job], number: usize) -> &Job
     &jobs[number]
 }
 
-// What is new of the facts and reasons, once what is known and seen has changed at the outputs of the job of the number alone, which is forced or not. The
-// judge is asked about the new facts, once about each.
-fn news_of<J: Judge>(
-    alloc: Global,
-    number: usize,
-    forced: bool,
-    base: &Base,
-    facts: &[JobFacts],
-    reasons: &[List<Reason>],
-    judge: &J,
-) -> Result<News, OutOfMemory>
-    requires { number < length base.now.jobs.jobs }
-    ensures facts { IfOk result (λ news. (j : JobValue) → slice_get base.now.jobs.jobs number ≡ Some j
-        → news.facts.items ≡ renewed_at base.now number forced j facts.now) }
-    ensures reasons { IfOk result (λ news. news.reasons.items ≡ map (option_map reasons_of) news.facts.items) }
-    ensures own { IfOk result (λ news. news.own ≡ merged reasons.now news.reasons.items) }
-    ensures forced { IfOk result (λ news. news.forced ≡ map (λ f. f.forced) (merged facts.now news.facts.items)) }
+// The numbers of the readers of the job of the number.
+fn readers_at(readers: &[List<usize>], number: usize) -> &[usize]
+    ensures { result.now ≡ readers_at readers.now number }
 {
-    let jobs = base.jobs.jobs.as_slice();
-    let job = job_at(jobs, number);
-    let fresh = renewed_facts(alloc, number, forced, job, jobs, facts, base, &base.sources)?;
-    let judged = judge_each(alloc, judge, fresh.as_slice())?;
-    let own = merged_reasons(alloc, reasons, judged.as_slice())?;
-    let forced = merged_forced(alloc, facts, fresh.as_slice())?;
-    Ok(News {
-        facts: fresh,
-        reasons: judged,
-        own,
-        forced,
-    })
-}
-
-// What is new, with the plan by it.
-fn next_by(alloc: Global, base: &Base, settings: &Settings, news: News) -> Result<Next, PlanFault>
-    ensures facts { IfOk result (λ next. (next.facts ≡ news.facts) × (next.reasons ≡ news.reasons)) }
-    ensures each { IfOk result (λ next. length next.plan.states ≡ length base.now.jobs.jobs) }
-    ensures targets { IfOk result (λ next. length next.plan.current ≡ length settings.now.targets) }
-    ensures now { IfOk result (λ next. (facts : Items FactsValue) → AreJudgedBy settings.now base.now facts news.own news.forced → IsNow settings.now base.now next.plan next.held) }
-    ensures refused { IfErr result (λ fault. fault ≢ PlanFault.OutOfMemory → (facts : Items FactsValue) → AreJudgedBy settings.now base.now facts news.own news.forced
-        → IsRefusedNow settings.now base.now fault) }
-{
-    let News {
-        facts,
-        reasons,
-        own,
-        forced,
-    } = news;
-    match tell(alloc, base, settings, own, forced) {
-        Err(fault) => Err(fault),
-        Ok(made) => Ok(Next {
-            facts,
-            reasons,
-            plan: made.plan,
-            held: made.held,
-        }),
+    match readers.get(number) {
+        None => &[],
+        Some(row) => row.as_slice(),
     }
 }
 
-/// What is new once what is known and seen has changed at the outputs of the job of the number alone, which is forced or not. The judge is asked about the new
-/// facts, once about each.
-pub(crate) fn next_of<J: Judge>(
+// What may be refused of the jobs, where this may be of the job of the number.
+fn suspects_but(
     alloc: Global,
+    suspects: &[Suspect],
     number: usize,
-    forced: bool,
-    base: &Base,
-    settings: &Settings,
-    facts: &[JobFacts],
-    reasons: &[List<Reason>],
-    judge: &J,
-) -> Result<Next, PlanFault>
-    requires { number < length base.now.jobs.jobs }
-    ensures next { IfOk result (IsNext settings.now base.now number forced facts.now reasons.now) }
-    ensures refused { IfErr result (λ fault. fault ≢ PlanFault.OutOfMemory → IsSettledAt settings.now base.now number forced facts.now reasons.now
-        → IsRefusedNow settings.now base.now fault) }
+    suspect: Suspect,
+) -> Result<Vec<Suspect>, OutOfMemory>
+    ensures { IfOk result (λ found. found.items ≡ slice_set suspects.now number suspect) }
 {
-    match news_of(alloc, number, forced, base, facts, reasons, judge) {
-        Err(_) => Err(PlanFault::OutOfMemory),
-        Ok(news) => next_by(alloc, base, settings, news),
+    let mut found = Vec::from_slice(alloc, suspects)?;
+    put_at(&mut found, number, suspect);
+    Ok(found)
+}
+
+// Puts in what is new of jobs.
+fn put_news(facts: &mut Vec<JobFacts>, reasons: &mut Vec<List<Reason>>, news: Vec<Renewed>)
+    ensures facts { facts.new.items ≡ put_each facts.old.items (map numbered_facts news.items) }
+    ensures reasons { reasons.new.items ≡ put_each reasons.old.items (map numbered_reasons news.items) }
+{
+    for one in news {
+        let Renewed {
+            number,
+            facts: has,
+            reasons: judged,
+        } = one;
+        put_at(facts, number, has);
+        put_at(reasons, number, judged);
     }
 }
 
 impl LivePlan {
-    /// Puts in what is new.
-    pub(crate) fn install(&mut self, next: Next)
-        ensures base { (self.new.base ≡ self.old.base) × (self.new.settings ≡ self.old.settings) }
-        ensures facts { self.new.facts.items ≡ merged self.old.facts.items next.facts.items }
-        ensures reasons { self.new.reasons.items ≡ merged self.old.reasons.items next.reasons.items }
-        ensures plan { (self.new.plan ≡ next.plan) × (self.new.held ≡ next.held) }
+    // What is told anew of the job of the number, which is forced or not, and of its readers.
+    fn change_of<J: Judge>(
+        &self,
+        alloc: Global,
+        number: usize,
+        forced: bool,
+        judge: &J,
+    ) -> Result<Change, OutOfMemory>
+        requires { number < length self.now.base.jobs.jobs }
+        ensures { IfOk result (IsChangeOf self.now number forced) }
     {
-        let Next {
+        let base = &self.base;
+        let jobs = base.jobs.jobs.as_slice();
+        let job = job_at(jobs, number);
+        let facts = self.facts.as_slice();
+        let rows = self.readers.as_slice();
+        let readers = readers_at(rows, number);
+        let news = news_of(
+            alloc,
+            base,
+            &base.sources,
+            forced,
+            number,
+            job,
             facts,
-            reasons,
-            plan,
-            held,
-        } = next;
-        put_each(&mut self.facts, facts);
-        put_each(&mut self.reasons, reasons);
+            readers,
+            judge,
+        )?;
+        let outputs = outputs_told(alloc, base, job)?;
+        let told = base.jobs.makers.as_slice();
+        let flags = self.flags.makers.as_slice();
+        let makers = makers_again(alloc, base, number, job, told, flags)?;
+        let suspect = suspect_of(base, &self.settings.bounds, job);
+        let before = self.flags.suspects.as_slice();
+        let suspects = suspects_but(alloc, before, number, suspect)?;
+        Ok(Change {
+            number,
+            news,
+            outputs,
+            makers,
+            suspects,
+        })
+    }
+
+    // The plan with what is told anew of the job of the number, which is forced or not.
+    fn tell_changed(
+        &self,
+        alloc: Global,
+        number: usize,
+        forced: bool,
+        change: &Change,
+    ) -> Result<Made, PlanFault>
+        requires table { IsTableOf self.now.base.jobs self.now.settings.targets self.now.table }
+        requires change { IsChangeOf self.now number forced change.now }
+        ensures each { IfOk result (λ made. length made.plan.states ≡ length self.now.base.jobs.jobs) }
+        ensures targets { IfOk result (λ made. length made.plan.current ≡ length self.now.settings.targets) }
+        ensures now { IfOk result (λ made. IsAhead self.now number forced → IsNow self.now.settings self.now.base made.plan made.held) }
+        ensures refused { IfErr result (λ fault. fault ≢ PlanFault.OutOfMemory → IsAhead self.now number forced
+            → IsRefusedNow self.now.settings self.now.base fault) }
+    {
+        let outputs = self.flags.outputs.as_slice();
+        let reasons = self.reasons.as_slice();
+        let facts = self.facts.as_slice();
+        let makers = change.makers.as_slice();
+        let suspects = change.suspects.as_slice();
+        match lend_with(alloc, outputs, reasons, facts, change) {
+            Err(_) => Err(PlanFault::OutOfMemory),
+            Ok(rows) => tell(
+                alloc,
+                &self.base,
+                &self.settings,
+                &self.table,
+                &rows,
+                makers,
+                suspects,
+            ),
+        }
+    }
+
+    // What is new with what is told anew of the job of the number, which is forced or not.
+    fn next_by(
+        &self,
+        alloc: Global,
+        number: usize,
+        forced: bool,
+        change: Change,
+    ) -> Result<Next, PlanFault>
+        requires table { IsTableOf self.now.base.jobs self.now.settings.targets self.now.table }
+        requires change { IsChangeOf self.now number forced change }
+        ensures next { IfOk result (IsNext self.now number forced) }
+        ensures refused { IfErr result (λ fault. fault ≢ PlanFault.OutOfMemory → IsAhead self.now number forced
+            → IsRefusedNow self.now.settings self.now.base fault) }
+    {
+        match self.tell_changed(alloc, number, forced, &change) {
+            Err(fault) => Err(fault),
+            Ok(made) => Ok(Next {
+                change,
+                plan: made.plan,
+                held: made.held,
+            }),
+        }
+    }
+
+    // What is new once the base has changed at the outputs of the job of the number, which is forced or not. The judge is asked once about the job and once about
+    // each of its readers.
+    fn next_of<J: Judge>(
+        &self,
+        alloc: Global,
+        number: usize,
+        forced: bool,
+        judge: &J,
+    ) -> Result<Next, PlanFault>
+        requires within { number < length self.now.base.jobs.jobs }
+        requires table { IsTableOf self.now.base.jobs self.now.settings.targets self.now.table }
+        ensures next { IfOk result (IsNext self.now number forced) }
+        ensures refused { IfErr result (λ fault. fault ≢ PlanFault.OutOfMemory → IsAhead self.now number forced
+            → IsRefusedNow self.now.settings self.now.base fault) }
+    {
+        match self.change_of(alloc, number, forced, judge) {
+            Err(_) => Err(PlanFault::OutOfMemory),
+            Ok(change) => self.next_by(alloc, number, forced, change),
+        }
+    }
+
+    // Puts in what is new.
+    fn install(&mut self, next: Next)
+        ensures base { (self.new.base ≡ self.old.base) × (self.new.settings ≡ self.old.settings) }
+        ensures facts { self.new.facts.items ≡ put_each self.old.facts.items (map numbered_facts next.change.news.items) }
+        ensures reasons { self.new.reasons.items ≡ put_each self.old.reasons.items (map numbered_reasons next.change.news.items) }
+        ensures plan { (self.new.plan ≡ next.plan) × (self.new.held ≡ next.held) }
+        ensures outputs { self.new.flags.outputs ≡ slice_set self.old.flags.outputs next.change.number next.change.outputs }
+        ensures makers { self.new.flags.makers ≡ next.change.makers }
+        ensures suspects { self.new.flags.suspects ≡ next.change.suspects.items }
+        ensures paths { (self.new.table ≡ self.old.table) × (self.new.readers ≡ self.old.readers) }
+    {
+        let Next { change, plan, held } = next;
+        let Change {
+            number,
+            news,
+            outputs,
+            makers,
+            suspects,
+        } = change;
+        put_news(&mut self.facts, &mut self.reasons, news);
+        self.flags.outputs.put(number, outputs);
+        self.flags.makers = makers;
+        self.flags.suspects = Slots::of(suspects);
         self.plan = plan;
         self.held = held;
+    }
+
+    /// The base has changed at the outputs of the job of the number, which is forced or not from now on; all else is told anew by it. The judge is asked once about
+    /// the job and once about each of its readers.
+    ///
+    /// The faults are those of a plan of this moment; after any of them nothing is changed.
+    pub(crate) fn settle<J: Judge>(
+        &mut self,
+        alloc: Global,
+        number: usize,
+        forced: bool,
+        judge: &J,
+    ) -> Result<(), PlanFault>
+        requires within { number < length self.old.base.jobs.jobs }
+        requires ahead { IsAhead self.old number forced }
+        ensures live { OnOk result (IsLive self.new) }
+        ensures ok { OnOk result ((self.new.settings ≡ self.old.settings) × (self.new.base ≡ self.old.base)) }
+        ensures err { OnErr result (self.new ≡ self.old) }
+        ensures refused { IfErr result (λ fault. fault ≢ PlanFault.OutOfMemory → IsRefusedNow self.old.settings self.old.base fault) }
+    {
+        match self.next_of(alloc, number, forced, judge) {
+            Err(fault) => Err(fault),
+            Ok(next) => {
+                self.install(next);
+                Ok(())
+            }
+        }
     }
 }

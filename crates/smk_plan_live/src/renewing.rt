@@ -1,11 +1,12 @@
 //! The facts that are told anew once what is known and seen has changed at the outputs of one job.
 
-ghost use Rattle.std.specs.Prelude.{◌≡◌, ◌++◌, false, drop, IfOk, OnOk};
-ghost use Rattle.std.specs.List.{list_any, flat_map};
+ghost use Rattle.std.specs.Prelude.{◌≡◌, ◌++◌, drop, option_map, IfOk, OnOk};
+ghost use Rattle.std.specs.List.{flat_map, slice_get};
 ghost use Rattle.std.specs.BTreeSet.{contains_text};
 ghost use Rattle.smk_base.specs.Path.{is_at_or_under};
 ghost use Rattle.smk_world.specs.Trees.{outs_of};
-ghost use Rattle.smk_plan_live.specs.Same.{is_over, is_user, restamp, restamped, user_facts, renewed_of, renewed_from};
+ghost use Rattle.smk_plan_facts.specs.Telling.{facts_in};
+ghost use Rattle.smk_plan_live.specs.Same.{all_news, is_over, reader_news, renewed, restamp, restamped, user_facts};
 
 use crate::copies::{all_kept_again, flags_again};
 use crate::outs::outs_in;
@@ -14,7 +15,7 @@ use smk_flow::Job;
 use smk_plan::Told;
 use smk_plan_facts::{own_facts, stamp_now};
 use smk_record::Stamp;
-use smk_trigger::JobFacts;
+use smk_trigger::{JobFacts, Judge, Reason};
 use smk_world::{Item, Out};
 use std::alloc::Global;
 use std::collections::BTreeSet;
@@ -36,37 +37,6 @@ fn is_over(outs: &[Out], path: &PathText) -> bool
         }
     }
     false
-}
-
-// Whether one of the paths is.
-fn any_over(outs: &[Out], paths: &[PathText]) -> bool
-    ensures { result ≡ list_any (is_over outs.now) paths.now }
-{
-    for path in paths {
-        if is_over(outs, path) {
-            return true;
-        }
-    }
-    false
-}
-
-// Whether a path of these items is.
-fn any_item_over(outs: &[Out], items: &[Item]) -> bool
-    ensures { result ≡ list_any (λ item. list_any (is_over outs.now) item.paths) items.now }
-{
-    for item in items {
-        if any_over(outs, item.paths.as_slice()) {
-            return true;
-        }
-    }
-    false
-}
-
-// Whether the job reads one of the outputs, or what lies under one.
-fn is_user(outs: &[Out], job: &Job) -> bool
-    ensures { result ≡ is_user outs.now job.now }
-{
-    any_item_over(outs, job.recipe.inputs.as_slice())
 }
 
 // The stamp of the path, told anew where it is one of the outputs or lies under one.
@@ -171,98 +141,152 @@ fn user_facts<T: Told>(
     })
 }
 
-// The new facts of a job that isn't the one whose outputs these are: none unless it reads at or under one of them.
-fn user_renewed<T: Told>(
-    alloc: Global,
-    told: &T,
-    sources: &BTreeSet<String>,
-    forced: bool,
-    outs: &[Out],
-    job: &Job,
-    facts: &JobFacts,
-) -> Result<Option<JobFacts>, OutOfMemory>
-    ensures { IfOk result (λ found. found ≡ renewed_of (T.known told.now) (T.seen told.now) (contains_text sources.now) forced outs.now false job.now facts.now) }
-{
-    if !is_user(outs, job) {
-        return Ok(None);
-    }
-    let found = user_facts(alloc, told, sources, outs, facts)?;
-    Ok(Some(found))
+/// What is told anew of the job of a number: what it is judged by now, and what the judge says of that.
+#[derive(Drop)]
+pub(crate) struct Renewed {
+    pub(crate) number: usize,
+    pub(crate) facts: JobFacts,
+    pub(crate) reasons: List<Reason>,
 }
 
-// The new facts of a job, where it is the one whose outputs these are, or reads at or under one of them.
-fn renewed_of<T: Told>(
+// What is new of the job of the number, where these are its facts now.
+fn judged_anew<J: Judge>(
     alloc: Global,
-    told: &T,
-    sources: &BTreeSet<String>,
-    forced: bool,
-    outs: &[Out],
-    is_it: bool,
-    job: &Job,
-    facts: &JobFacts,
-) -> Result<Option<JobFacts>, OutOfMemory>
-    ensures { IfOk result (λ found. found ≡ renewed_of (T.known told.now) (T.seen told.now) (contains_text sources.now) forced outs.now is_it job.now facts.now) }
+    number: usize,
+    facts: JobFacts,
+    judge: &J,
+) -> Result<Renewed, OutOfMemory>
+    ensures { IfOk result (λ found. found ≡ renewed number facts) }
 {
-    if !is_it {
-        return user_renewed(alloc, told, sources, forced, outs, job, facts);
-    }
-    let found = own_facts(alloc, told, sources, forced, job)?;
-    Ok(Some(found))
+    let reasons = judge.judge(alloc, &facts)?;
+    Ok(Renewed {
+        number,
+        facts,
+        reasons,
+    })
 }
 
-// The same for each job, where the outputs are those of the job of this number.
-fn all_renewed<T: Told>(
+// The facts of the number, where they are there.
+fn facts_at(facts: &[JobFacts], number: usize) -> Option<&JobFacts>
+    ensures { option_map (λ f. f.now) result ≡ slice_get facts.now number }
+{
+    facts.get(number)
+}
+
+// Adds what is new of the reader, by the facts that it had, unless it is the job of the number itself.
+fn push_reader<T: Told, J: Judge>(
     alloc: Global,
+    found: &mut Vec<Renewed>,
     told: &T,
     sources: &BTreeSet<String>,
-    forced: bool,
     outs: &[Out],
     number: usize,
-    jobs: &[Job],
     facts: &[JobFacts],
-) -> Result<Vec<Option<JobFacts>>, OutOfMemory>
-    ensures { IfOk result (λ found. found.items ≡ renewed_from (T.known told.now) (T.seen told.now) (contains_text sources.now) forced outs.now number 0 jobs.now facts.now) }
+    reader: usize,
+    judge: &J,
+) -> Result<(), OutOfMemory>
+    ensures { OnOk result (found.new.items ≡ found.old.items
+        ++ reader_news (T.known told.now) (T.seen told.now) (contains_text sources.now) outs.now number facts.now reader) }
+{
+    if reader == number {
+        return Ok(());
+    }
+    let Some(had) = facts_at(facts, reader) else {
+        return Ok(());
+    };
+    let has = user_facts(alloc, told, sources, outs, had)?;
+    let fresh = judged_anew(alloc, reader, has, judge)?;
+    found.push(fresh)?;
+    Ok(())
+}
+
+// What is new of these readers, but for the job of the number itself.
+fn readers_news<T: Told, J: Judge>(
+    alloc: Global,
+    told: &T,
+    sources: &BTreeSet<String>,
+    outs: &[Out],
+    number: usize,
+    facts: &[JobFacts],
+    readers: &[usize],
+    judge: &J,
+) -> Result<Vec<Renewed>, OutOfMemory>
+    ensures { IfOk result (λ found. found.items
+        ≡ flat_map (reader_news (T.known told.now) (T.seen told.now) (contains_text sources.now) outs.now number facts.now) readers.now) }
 {
     let mut found = Vec::new(alloc);
-    let mut rest = facts;
-    for (i, job) in jobs.iter().enumerate() {
-        let Some((own, more)) = rest.split_first() else {
-            return Ok(found);
-        };
-        let fresh = renewed_of(alloc, told, sources, forced, outs, i == number, job, own)?;
-        found.push(fresh)?;
-        rest = more;
+    for reader in readers {
+        push_reader(
+            alloc, &mut found, told, sources, outs, number, facts, *reader, judge,
+        )?;
     }
     Ok(found)
 }
 
-/// The new facts of the job of this number, whose outputs they are, and of those that read at or under one of its outputs; None for each other job.
-///
-/// These are all facts that change where what is known and seen has changed at these outputs alone, and maybe whether the job is forced. The time is linear in
-/// the number of inputs of all jobs, times that of the outputs; nothing is looked up but for the facts that are told anew. `OutOfMemory` where there is no
-/// memory for them.
-pub(crate) fn renewed_facts<T: Told>(
+// What is new of these jobs that read at or under an output of the job of the number, but for that job itself.
+fn users_news<T: Told, J: Judge>(
     alloc: Global,
-    number: usize,
-    forced: bool,
-    job: &Job,
-    jobs: &[Job],
-    facts: &[JobFacts],
     told: &T,
     sources: &BTreeSet<String>,
-) -> Result<Vec<Option<JobFacts>>, OutOfMemory>
+    number: usize,
+    job: &Job,
+    facts: &[JobFacts],
+    readers: &[usize],
+    judge: &J,
+) -> Result<Vec<Renewed>, OutOfMemory>
     ensures { IfOk result (λ found. found.items
-        ≡ renewed_from (T.known told.now) (T.seen told.now) (contains_text sources.now) forced (outs_of job.now.recipe) number 0 jobs.now facts.now) }
+        ≡ flat_map (reader_news (T.known told.now) (T.seen told.now) (contains_text sources.now) (outs_of job.now.recipe) number facts.now) readers.now) }
 {
     let outs = outs_in(alloc, job.recipe.outputs.as_slice())?;
-    all_renewed(
+    let found = readers_news(
         alloc,
         told,
         sources,
-        forced,
         outs.as_slice(),
         number,
-        jobs,
         facts,
-    )
+        readers,
+        judge,
+    )?;
+    Ok(found)
+}
+
+// What is new of the job of the number, forced or not.
+fn own_news<T: Told, J: Judge>(
+    alloc: Global,
+    told: &T,
+    sources: &BTreeSet<String>,
+    forced: bool,
+    number: usize,
+    job: &Job,
+    judge: &J,
+) -> Result<Renewed, OutOfMemory>
+    ensures { IfOk result (λ found. found
+        ≡ renewed number (facts_in (T.known told.now) (T.seen told.now) (contains_text sources.now) (λ x. forced) job.now)) }
+{
+    let has = own_facts(alloc, told, sources, forced, job)?;
+    let fresh = judged_anew(alloc, number, has, judge)?;
+    Ok(fresh)
+}
+
+/// What is new of the job of the number, forced or not, and of these jobs that read at or under an output of it, by the facts that they had. The judge is asked once
+/// about each of them.
+pub(crate) fn news_of<T: Told, J: Judge>(
+    alloc: Global,
+    told: &T,
+    sources: &BTreeSet<String>,
+    forced: bool,
+    number: usize,
+    job: &Job,
+    facts: &[JobFacts],
+    readers: &[usize],
+    judge: &J,
+) -> Result<Vec<Renewed>, OutOfMemory>
+    ensures { IfOk result (λ found. found.items
+        ≡ all_news (T.known told.now) (T.seen told.now) (contains_text sources.now) forced number job.now facts.now readers.now) }
+{
+    let mut found = users_news(alloc, told, sources, number, job, facts, readers, judge)?;
+    let fresh = own_news(alloc, told, sources, forced, number, job, judge)?;
+    found.push(fresh)?;
+    Ok(found)
 }

@@ -22,6 +22,16 @@ impl<T> Model for Slots<T> {
     ghost view = { λ slots. slots.elements.items };
 }
 
+/// Puts the element in the place, where there is one.
+#[tactic(auto, using(crate::proofs::Putting::set_beyond))]
+pub(crate) fn put_at<T: Drop>(all: &mut Vec<T>, at: usize, element: T)
+    ensures { all.new.items ≡ slice_set all.old.items at element }
+{
+    if at < all.len() {
+        all[at] = element;
+    }
+}
+
 impl<T> Slots<T> {
     /// These elements.
     pub(crate) fn of(elements: Vec<T>) -> Slots<T>
@@ -44,5 +54,14 @@ impl<T> Slots<T> {
         ensures now { self.new ≡ slice_set self.old at element }
     {
         mem::replace(&mut self.elements[at], element)
+    }
+}
+
+impl<T: Drop> Slots<T> {
+    /// Puts the element in the place, where there is one.
+    pub(crate) fn put(&mut self, at: usize, element: T)
+        ensures { self.new ≡ slice_set self.old at element }
+    {
+        put_at(&mut self.elements, at, element);
     }
 }

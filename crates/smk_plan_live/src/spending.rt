@@ -5,13 +5,12 @@ ghost use Rattle.smk_world.specs.World.{out_paths};
 ghost use Rattle.smk_plan_live.specs.Lives.{IsLive, IsRefusedNow};
 ghost use Rattle.smk_plan_live.specs.Carried.{sight_but, sighted, spent};
 ghost use Rattle.smk_plan_live.specs.Changes.{HasSpent};
-ghost use Rattle.smk_plan_live.specs.Steps.{IsLoss, IsSettledAt};
+ghost use Rattle.smk_plan_live.specs.Steps.{IsChanged, IsLoss};
 
 use crate::LivePlan;
 use crate::base::Base;
 use crate::beginning::nothing_at;
 use crate::copies::sight_if_any;
-use crate::next::next_of;
 use crate::now::{sight_now, site_of};
 use crate::outs::out_paths_in;
 use crate::slots::Slots;
@@ -114,8 +113,7 @@ impl LivePlan {
     fn see(&mut self, alloc: Global, loss: Loss) -> Result<(), PlanFault>
         requires live { IsLive self.old }
         requires within { loss.number < length self.old.base.jobs.jobs }
-        requires settled { IsSettledAt self.old.settings (sighted loss.number (Some loss.sights) self.old.base) loss.number loss.forced
-            self.old.facts.items self.old.reasons.items }
+        requires changed { IsChanged self.old.settings self.old.base (sighted loss.number (Some loss.sights) self.old.base) loss.number loss.forced }
         ensures live { IsLive self.new }
         ensures ok { OnOk result ((self.new.settings ≡ self.old.settings) × (self.new.base ≡ sighted loss.number (Some loss.sights) self.old.base)) }
         ensures err { OnErr result (self.new ≡ self.old) }
@@ -128,32 +126,21 @@ impl LivePlan {
             sights,
         } = loss;
         let saw = self.base.sight_outputs(number, Some(sights));
-        match next_of(
-            alloc,
-            number,
-            forced,
-            &self.base,
-            &self.settings,
-            self.facts.as_slice(),
-            self.reasons.as_slice(),
-            &Plain,
-        ) {
+        match self.settle(alloc, number, forced, &Plain) {
             Err(fault) => {
                 self.base.sight_outputs(number, saw);
                 Err(fault)
             }
-            Ok(next) => {
-                self.install(next);
-                Ok(())
-            }
+            Ok(()) => Ok(()),
         }
     }
 
     /// The output was removed: nothing stands at it, or under it, from now on; what is known of it stays. Where the path is no output of the jobs nothing is
     /// changed.
     ///
-    /// Facts and reasons are told anew of its job and of the jobs that read at or under the job's outputs; the plan is told anew of all jobs, and what is whole
-    /// too, so the time is linear in the jobs and what they read and make. No judge is asked but the plain one.
+    /// Facts and reasons are told anew of its job and of the jobs that read at or under the job's outputs, and what is whole is told anew of its job alone. The plan
+    /// is told anew of all jobs, by the numbers and flags that are kept, so the time is linear in the jobs and what they read and make, with no look-up by path but
+    /// for those few jobs. No judge is asked but the plain one.
     ///
     /// The faults are those of a plan of that moment: the first thing that is refused of it, or `OutOfMemory` where there is no memory for all this. After any
     /// of them nothing is changed.

@@ -1,23 +1,23 @@
 //! What a base tells: the plan of its jobs, and whether a job is held back.
 
-ghost use Rattle.std.specs.Prelude.{◌≡◌, ◌≢◌, ◌++◌, ◌∷◌, [], List as Items, map, length, option_map, IfOk, IfErr, OnOk, if◌then◌else◌};
-ghost use Rattle.smk_trigger.specs.declared.facts.JobFacts.{JobFacts as FactsValue};
+ghost use Rattle.std.specs.Prelude.{◌≡◌, ◌≢◌, ◌++◌, ◌∷◌, [], length, map, IfOk, IfErr, OnOk, if◌then◌else◌};
 ghost use Rattle.smk_plan.specs.States.{job_path};
-ghost use Rattle.smk_plan_live.specs.Phases.{has_begun, begun_in, named_state, children_in};
-ghost use Rattle.smk_plan_live.specs.Lives.{AreJudgedBy, IsNow, IsRefusedNow, AreWhole};
+ghost use Rattle.smk_plan_states.specs.Served.{AreServed};
+ghost use Rattle.smk_plan_states.specs.Tables.{IsTableOf};
+ghost use Rattle.smk_plan_live.specs.Phases.{has_begun, begun_in};
+ghost use Rattle.smk_plan_live.specs.Lives.{AreLentNow, IsNow, IsRefusedNow};
 
 use crate::Phase;
 use crate::base::Base;
-use crate::children::kept_states;
+use crate::lending::Lent;
 use smk_base::{List, OutOfMemory, PathText};
 use smk_chain::first_output;
 use smk_flow::Job;
 use smk_pick::Settings;
-use smk_plan::{Plan, PlanFault, Wholes};
-use smk_plan_facts::{told_is_so, wholes_told};
-use smk_plan_states::{Judged, Table};
-use smk_plan_table::plan_now;
-use smk_trigger::{Reason, State};
+use smk_plan::{Plan, PlanFault};
+use smk_plan_facts::told_is_so;
+use smk_plan_states::{Rows, Table};
+use smk_plan_table::{Suspect, plan_now};
 use std::alloc::Global;
 
 /// A plan, and whether some job is to be restored but counts as Clean.
@@ -25,16 +25,6 @@ use std::alloc::Global;
 pub(crate) struct Made {
     pub(crate) plan: Plan,
     pub(crate) held: bool,
-}
-
-// What is told of the jobs before their states are: what is whole, the first outputs of those that have begun, and, twice, for each the state that it had when
-// it began, if its child runs.
-#[derive(Drop)]
-struct Ready {
-    wholes: Wholes,
-    ran: List<PathText>,
-    running: List<Option<State>>,
-    kept: List<Option<State>>,
 }
 
 // Whether it has begun.
@@ -93,85 +83,90 @@ pub(crate) fn begun_of(
     Ok(found)
 }
 
-// What is told before the states are.
-fn make_ready(alloc: Global, base: &Base) -> Result<Ready, OutOfMemory>
-    ensures wholes { IfOk result (λ ready. AreWhole base.now ready.wholes) }
-    ensures ran { IfOk result (λ ready. ready.ran ≡ begun_in base.now.jobs.jobs base.now.phases) }
-    ensures running { IfOk result (λ ready. ready.running ≡ map (λ j. named_state (children_in base.now.jobs.jobs base.now.began) (job_path j)) base.now.jobs.jobs) }
-    ensures kept { IfOk result (λ ready. ready.kept ≡ map (λ j. named_state (children_in base.now.jobs.jobs base.now.began) (job_path j)) base.now.jobs.jobs) }
+// For each job whether it has begun.
+fn begun_flags(alloc: Global, phases: &[Phase]) -> Result<Vec<bool>, OutOfMemory>
+    ensures { IfOk result (λ found. found.items ≡ map has_begun phases.now) }
 {
-    let jobs = base.jobs.jobs.as_slice();
-    let wholes = wholes_told(alloc, &base.jobs, base)?;
-    let ran = begun_of(alloc, jobs, base.phases.as_slice())?;
-    let running = kept_states(alloc, jobs, base.began.as_slice())?;
-    let kept = kept_states(alloc, jobs, base.began.as_slice())?;
-    Ok(Ready {
-        wholes,
-        ran,
-        running,
-        kept,
-    })
+    let mut found = Vec::new(alloc);
+    for phase in phases {
+        found.push(has_begun(*phase))?;
+    }
+    Ok(found)
 }
 
-// The plan, and whether a job is held back, by what is ready.
+// The plan, and whether a job is held back, where these have begun.
 fn tell_by(
     alloc: Global,
     base: &Base,
     settings: &Settings,
-    reasons: List<List<Reason>>,
-    forced: List<bool>,
-    ready: Ready,
+    table: &Table,
+    lent: &Lent<'_>,
+    makers: &[bool],
+    begun: &[bool],
+    suspects: &[Suspect],
 ) -> Result<Made, PlanFault>
-    requires wholes { AreWhole base.now ready.wholes }
-    requires ran { ready.ran ≡ begun_in base.now.jobs.jobs base.now.phases }
-    requires running { ready.running ≡ map (λ j. named_state (children_in base.now.jobs.jobs base.now.began) (job_path j)) base.now.jobs.jobs }
-    requires kept { ready.kept ≡ map (λ j. named_state (children_in base.now.jobs.jobs base.now.began) (job_path j)) base.now.jobs.jobs }
+    requires table { IsTableOf base.now.jobs settings.now.targets table.now }
+    requires begun { begun.now ≡ map has_begun base.now.phases }
     ensures each { IfOk result (λ made. length made.plan.states ≡ length base.now.jobs.jobs) }
     ensures targets { IfOk result (λ made. length made.plan.current ≡ length settings.now.targets) }
-    ensures now { IfOk result (λ made. (facts : Items FactsValue) → AreJudgedBy settings.now base.now facts reasons forced → IsNow settings.now base.now made.plan made.held) }
-    ensures refused { IfErr result (λ fault. fault ≢ PlanFault.OutOfMemory → (facts : Items FactsValue) → AreJudgedBy settings.now base.now facts reasons forced → IsRefusedNow settings.now base.now fault) }
+    ensures now { IfOk result (λ made. (AreServed base.now.jobs settings.now.targets → AreLentNow settings.now base.now lent.now makers.now suspects.now)
+        → IsNow settings.now base.now made.plan made.held) }
+    ensures refused { IfErr result (λ fault. fault ≢ PlanFault.OutOfMemory
+        → (AreServed base.now.jobs settings.now.targets → AreLentNow settings.now base.now lent.now makers.now suspects.now)
+        → IsRefusedNow settings.now base.now fault) }
 {
     told_is_so();
-    let Ready {
-        wholes,
-        ran,
-        running,
-        kept,
-    } = ready;
-    let judged = Judged {
-        reasons,
-        forced,
-        running,
+    let rows = Rows {
+        outputs: lent.outputs.as_slice(),
+        makers,
+        reasons: lent.reasons.as_slice(),
+        forced: lent.forced.as_slice(),
+        running: base.began.as_slice(),
     };
-    match Table::of(alloc, &base.jobs, &settings.targets, &wholes) {
-        Err(_) => Err(PlanFault::OutOfMemory),
-        Ok(table) => match plan_now(alloc, &base.jobs, &table, base, settings, &ran, judged) {
-            Err(fault) => Err(fault),
-            Ok(plan) => match table.holds_back(alloc, &kept, &plan.states) {
-                Err(_) => Err(PlanFault::OutOfMemory),
-                Ok(held) => Ok(Made { plan, held }),
-            },
+    match plan_now(
+        alloc, &base.jobs, table, base, settings, &rows, begun, suspects,
+    ) {
+        Err(fault) => Err(fault),
+        Ok(plan) => match table.holds_back(alloc, &rows, plan.states.as_slice()) {
+            Err(_) => Err(PlanFault::OutOfMemory),
+            Ok(held) => Ok(Made { plan, held }),
         },
     }
 }
 
-/// The plan of the jobs by the reasons of each and which of them are forced, and whether a job is held back. What is whole is told anew of all jobs.
+/// The plan of the jobs by what is lent: the rows of this moment, which of the makers' paths are whole, and what may be refused of each job; and whether a job is
+/// held back.
 ///
-/// The faults are those of a plan; `OutOfMemory` also where a job without outputs has begun.
+/// The faults are those of a plan.
 pub(crate) fn tell(
     alloc: Global,
     base: &Base,
     settings: &Settings,
-    reasons: List<List<Reason>>,
-    forced: List<bool>,
+    table: &Table,
+    lent: &Lent<'_>,
+    makers: &[bool],
+    suspects: &[Suspect],
 ) -> Result<Made, PlanFault>
+    requires { IsTableOf base.now.jobs settings.now.targets table.now }
     ensures each { IfOk result (λ made. length made.plan.states ≡ length base.now.jobs.jobs) }
     ensures targets { IfOk result (λ made. length made.plan.current ≡ length settings.now.targets) }
-    ensures now { IfOk result (λ made. (facts : Items FactsValue) → AreJudgedBy settings.now base.now facts reasons forced → IsNow settings.now base.now made.plan made.held) }
-    ensures refused { IfErr result (λ fault. fault ≢ PlanFault.OutOfMemory → (facts : Items FactsValue) → AreJudgedBy settings.now base.now facts reasons forced → IsRefusedNow settings.now base.now fault) }
+    ensures now { IfOk result (λ made. (AreServed base.now.jobs settings.now.targets → AreLentNow settings.now base.now lent.now makers.now suspects.now)
+        → IsNow settings.now base.now made.plan made.held) }
+    ensures refused { IfErr result (λ fault. fault ≢ PlanFault.OutOfMemory
+        → (AreServed base.now.jobs settings.now.targets → AreLentNow settings.now base.now lent.now makers.now suspects.now)
+        → IsRefusedNow settings.now base.now fault) }
 {
-    match make_ready(alloc, base) {
+    match begun_flags(alloc, base.phases.as_slice()) {
         Err(_) => Err(PlanFault::OutOfMemory),
-        Ok(ready) => tell_by(alloc, base, settings, reasons, forced, ready),
+        Ok(begun) => tell_by(
+            alloc,
+            base,
+            settings,
+            table,
+            lent,
+            makers,
+            begun.as_slice(),
+            suspects,
+        ),
     }
 }

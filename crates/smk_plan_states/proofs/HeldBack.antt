@@ -1,7 +1,5 @@
 -- Which jobs are held back is what is told of it.
 use Rattle.std.proofs.Common.{◌≡◌, Bool, true, false, not, cond, ◌&&◌, ◌||◌, List, [], ◌∷◌, map, zip, refl, sym, ap, ◌∙◌, Option, Some, None, is_none}
-use Rattle.smk_plan_states.specs.Keys.{at_key, has_key}
-use Rattle.std.specs.BTreeSet.{contains_text}
 use Rattle.std.specs.List.{list_any}
 use Rattle.std.proofs.Math.Bool.{or_comm}
 use Rattle.smk_world.specs.World.{out_paths}
@@ -15,8 +13,7 @@ use Rattle.smk_trigger.specs.declared.reason.State.TheVariants.{Open}
 use Rattle.smk_trigger.specs.JobStates.{is_clean}
 use Rattle.smk_pick.specs.declared.settings.Settings.{Settings}
 use Rattle.smk_plan.specs.States.{Progress, HasStates, by_reasons, while_running, kept_state, is_open_now, is_read_now, is_to_restore, is_held_back, reasons}
-use Rattle.smk_plan_states.specs.declared.parts.Parts.{Parts}
-use Rattle.smk_plan_states.specs.declared.paths.Paths.{Paths}
+use Rattle.smk_plan_states.specs.Shapes.{Parts, Paths}
 use Rattle.smk_plan_states.specs.Served.{AreServed}
 use Rattle.smk_plan_states.specs.Judged.{with_states}
 use Rattle.smk_plan_states.specs.Parts.{parts_of, gone_outputs}
@@ -51,7 +48,7 @@ held_state None false [] restores read = held_plain restores read
 
 -- ## Lists
 
-any_mapped : {A B C : Type 0} (f : B × C → Bool) (g : A → B) (xs : List A) (ys : List C) → list_any f (zip (map g xs) ys) ≡ list_any (λ (e : A × C). f (g e.0, e.1)) (zip xs ys)
+pub any_mapped : {A B C : Type 0} (f : B × C → Bool) (g : A → B) (xs : List A) (ys : List C) → list_any f (zip (map g xs) ys) ≡ list_any (λ (e : A × C). f (g e.0, e.1)) (zip xs ys)
 any_mapped f g [] ys = refl
 any_mapped f g (x ∷ xs) [] = refl
 any_mapped f g (x ∷ xs) (y ∷ ys) = ap (λ b. f (g x, y) || b) (any_mapped f g xs ys)
@@ -80,7 +77,7 @@ module _
   began = kept_state image settings progress (with_states jobs [])
 
   abbrev used : Path → Bool
-  used = in_use_told (λ q. at_key paths.sites q) parts running
+  used = in_use_told (λ q. paths.sites q) parts running
 
   needed_is : (q : Path) → needed_told parts ss q ≡ needs image settings progress jobs ss q
   needed_is q = ap (λ ms. list_any (is_needed_by q) (zip ms ss)) split ∙ any_mapped (is_needed_by q) (parts_of image) jobs.jobs ss
@@ -88,14 +85,14 @@ module _
   used_is : (name : Path) → used name ≡ in_use_told (site_at image jobs) (map (parts_of image) jobs.jobs) (map began jobs.jobs) name
   used_is name = λ i. in_use_told (λ q. kept.sites q i) (split i) (begun i) name
 
-  held_one :
+  pub held_one :
       (j : Job) → In j jobs.jobs →
       is_held_told (is_kept_in paths) (needed_told parts ss) used (parts_of image j, (late j, began j)) ≡ is_held_back image settings progress (with_states jobs ss) j
   held_one j here =
       let own : Apart (out_paths j.recipe) = own_apart jobs.jobs j apart here in
       let k : is_kept_in paths (parts_of image j) ≡ is_kept image settings progress (with_states jobs ss) j =
       kept_is image settings progress jobs ss solved apart asked targets served.targets served.reads
-      (λ q. contains_text paths.targets q) (λ q. contains_text paths.awaited q) (λ q. has_key paths.read q) kept.targets kept.awaited kept.read j own in
+      (λ q. paths.targets q) (λ q. paths.awaited q) (λ q. paths.read q) kept.targets kept.awaited kept.read j own in
       let n : list_any (needed_told parts ss) (gone_outputs image j) ≡ list_any (needs image settings progress jobs ss) (gone_outputs image j) =
       any_same (needed_told parts ss) (needs image settings progress jobs ss) (gone_outputs image j) (λ p i. needed_is p) in
       let wanted : (list_any (needed_told parts ss) (gone_outputs image j) || is_kept_in paths (parts_of image j)) ≡ is_to_restore image settings progress (with_states jobs ss) j =

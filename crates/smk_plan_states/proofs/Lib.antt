@@ -1,5 +1,3 @@
-mod JobParts
-mod Upstream
 pub mod Tests
 mod Apart
 mod Meaning
@@ -9,6 +7,14 @@ mod FirstPass
 mod LastPass
 mod Solved
 mod ReadyNow
-pub mod Tabled
 mod HeldBack
+mod Flags
+mod Numbers
+mod Awaiting
+mod UsedBy
+mod ByRank
+mod Needing
+mod Building
+mod HeldByLinks
+mod LookUps
 pub mod Linked

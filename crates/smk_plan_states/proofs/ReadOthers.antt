@@ -16,7 +16,7 @@ use Rattle.smk_trigger.specs.declared.reason.State.{State}
 use Rattle.smk_pick.specs.declared.settings.Settings.{Settings}
 use Rattle.smk_plan.specs.States.{Progress, makes, gathers_from, job_path, kept_state, is_read_now, test_some}
 use Rattle.smk_plan.specs.Sights.{job_at}
-use Rattle.smk_plan_states.specs.declared.parts.Parts.{Parts}
+use Rattle.smk_plan_states.specs.Shapes.{Parts}
 use Rattle.smk_plan_states.specs.Served.{AreApart, outputs_of, ReadEarlier}
 use Rattle.smk_plan_states.specs.Judged.{with_states}
 use Rattle.smk_plan_states.specs.Parts.{parts_of}
@@ -54,11 +54,11 @@ find_none test xs x e i = go (test x) refl
 
 -- ## Lists
 
-any_zipped : {A B C : Type 0} (f : B × C → Bool) (g : A → B) (h : A → C) (xs : List A) → list_any f (zip (map g xs) (map h xs)) ≡ list_any (λ x. f (g x, h x)) xs
+pub any_zipped : {A B C : Type 0} (f : B × C → Bool) (g : A → B) (h : A → C) (xs : List A) → list_any f (zip (map g xs) (map h xs)) ≡ list_any (λ x. f (g x, h x)) xs
 any_zipped f g h [] = refl
 any_zipped f g h (x ∷ xs) = ap (λ b. f (g x, h x) || b) (any_zipped f g h xs)
 
-any_and : {A : Type 0} (c : Bool) (f : A → Bool) (xs : List A) → list_any (λ x. c && f x) xs ≡ (c && list_any f xs)
+pub any_and : {A : Type 0} (c : Bool) (f : A → Bool) (xs : List A) → list_any (λ x. c && f x) xs ≡ (c && list_any f xs)
 any_and true f xs = refl
 any_and false f xs = any_never xs
 
@@ -89,7 +89,7 @@ module _ (js : List Job) (apart : JobsApart js) (j : Job) (here : In j js) where
   output_made i p o = or_first (among (out_paths i.recipe) p) _ (in_among (out_paths i.recipe) p o)
 
   -- it has a name, if it makes a path
-  unnamed : first (out_paths j.recipe) ≡ None → (q : Path) → makes j q ≡ false
+  pub unnamed : first (out_paths j.recipe) ≡ None → (q : Path) → makes j q ≡ false
   unnamed e q = go (makes j q) refl
     where
       none : (ps : List Path) (p : Path) → first ps ≡ None → In p ps → ⊥

@@ -14,10 +14,7 @@ use Rattle.smk_trigger.specs.JobStates.{is_clean}
 use Rattle.smk_pick.specs.declared.settings.Settings.{Settings}
 use Rattle.smk_plan.specs.States.{Plan, Progress, makes, gathers_from, stands_whole, test_some, none_or_one, maker_of, directory_over, awaits, is_ready}
 use Rattle.smk_plan.specs.Sights.{job_at}
-use Rattle.smk_plan_states.specs.declared.parts.Directory.{Directory}
-use Rattle.smk_plan_states.specs.declared.parts.Parts.{Parts}
-use Rattle.smk_plan_states.specs.declared.ready.Wait.{Wait}
-use Rattle.smk_plan_states.specs.declared.sites.Site.{Site}
+use Rattle.smk_plan_states.specs.Shapes.{Directory, Parts, Wait, Site}
 use Rattle.smk_plan_states.specs.Served.{AreServed, IsToldOf}
 use Rattle.smk_plan_states.specs.Judged.{with_states}
 use Rattle.smk_plan_states.specs.Parts.{directory_at, parts_of}

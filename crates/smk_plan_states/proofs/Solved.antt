@@ -45,7 +45,7 @@ module _ (image : Image) (J : Jobs) (asked : List Path) (served : AreServed J as
           n : ℕ
           n = length front
 
-          t : (s : Rattle.smk_plan_states.specs.declared.sites.Site.Site) × IsTold image J q s × IsBelow (length front) s.job
+          t : (s : Rattle.smk_plan_states.specs.Shapes.Site) × IsTold image J q s × IsBelow (length front) s.job
           t =
               told_below image J (length front) q
               (each_in (IsReadOf J (length front)) (in_paths k.recipe ++ gathers_from k) q

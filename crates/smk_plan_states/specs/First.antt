@@ -14,9 +14,7 @@ use Rattle.smk_trigger.specs.declared.reason.State.TheVariants.{Open, Dirty, Res
 use Rattle.smk_trigger.specs.Reasons.{when}
 use Rattle.smk_pick.specs.declared.settings.Settings.{Settings}
 use Rattle.smk_plan.specs.States.{Plan, Progress, by_reasons, while_running, awaited, is_input, is_temporary, is_open_now, is_read_now, kept_state, reasons}
-use Rattle.smk_plan_states.specs.declared.parts.Parts.{Parts}
-use Rattle.smk_plan_states.specs.declared.paths.Paths.{Paths}
-use Rattle.smk_plan_states.specs.declared.sites.Site.{Site}
+use Rattle.smk_plan_states.specs.Shapes.{Parts, Paths, Site}
 use Rattle.smk_plan_states.specs.Served.{AreServed}
 use Rattle.smk_plan_states.specs.Judged.{Judging, with_states, began, AreStates}
 use Rattle.smk_plan_states.specs.Parts.{parts_of}

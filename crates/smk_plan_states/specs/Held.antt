@@ -1,13 +1,10 @@
 -- Jobs that are held back, by what is found of their parts and states.
 use Rattle.std.specs.Prelude.{Bool, ◌&&◌, ◌||◌, List, Option, is_none}
-use Rattle.smk_plan_states.specs.Keys.{at_key, has_key}
-use Rattle.std.specs.BTreeSet.{contains_text}
 use Rattle.std.specs.List.{list_any, zip}
 use Rattle.smk_world.specs.Trees.{Path, among}
 use Rattle.smk_trigger.specs.declared.reason.State.{State}
 use Rattle.smk_trigger.specs.JobStates.{is_clean, is_to_run}
-use Rattle.smk_plan_states.specs.declared.parts.Parts.{Parts}
-use Rattle.smk_plan_states.specs.declared.paths.Paths.{Paths}
+use Rattle.smk_plan_states.specs.Shapes.{Parts, Paths}
 use Rattle.smk_plan_states.specs.Passes.{is_kept_told}
 use Rattle.smk_plan_states.specs.InUse.{in_use_told, is_in_use_told}
 
@@ -21,7 +18,7 @@ needed_told parts states q = list_any (is_needed_by q) (zip parts states)
 
 -- some output that isn't whole is wanted back, whatever jobs run
 abbrev pub is_kept_in : Paths → Parts → Bool
-is_kept_in paths m = is_kept_told (λ q. contains_text paths.targets q) (λ q. contains_text paths.awaited q) (λ q. has_key paths.read q) m
+is_kept_in paths m = is_kept_told (λ q. paths.targets q) (λ q. paths.awaited q) (λ q. paths.read q) m
 
 -- A job whose child doesn't run counts as Clean; a child reads what it made, and an output that isn't whole is wanted back.
 abbrev pub is_held_told : (Parts → Bool) → (Path → Bool) → (Path → Bool) → Parts × (State × Option State) → Bool
@@ -32,5 +29,5 @@ is_held_told kept needed used e =
 abbrev pub any_held_told : Paths → List Parts → List State → List (Option State) → Bool
 any_held_told paths parts states running =
     list_any
-    (is_held_told (is_kept_in paths) (needed_told parts states) (in_use_told (λ q. at_key paths.sites q) parts running))
+    (is_held_told (is_kept_in paths) (needed_told parts states) (in_use_told (λ q. paths.sites q) parts running))
     (zip parts (zip states running))

@@ -6,8 +6,7 @@ use Rattle.smk_world.specs.Trees.{Path, first}
 use Rattle.smk_pattern.specs.Reading.{or_empty}
 use Rattle.smk_trigger.specs.declared.reason.State.{State}
 use Rattle.smk_plan.specs.States.{test_some}
-use Rattle.smk_plan_states.specs.declared.parts.Parts.{Parts}
-use Rattle.smk_plan_states.specs.declared.sites.Site.{Site}
+use Rattle.smk_plan_states.specs.Shapes.{Parts, Site}
 
 -- the parts of the job that makes the path; none for a source
 abbrev pub maker_parts : List Parts → Option Site → Option Parts

@@ -1,6 +1,7 @@
 pub mod Served
 pub mod Judged
 pub mod Keys
+pub mod Shapes
 pub mod Parts
 pub mod Sites
 pub mod Paths
@@ -8,6 +9,13 @@ pub mod Passes
 pub mod InUse
 pub mod First
 pub mod Held
+pub mod Lines
 pub mod Tables
+pub mod Rows
+pub mod Ranks
+pub mod Spots
+pub mod Ranking
+pub mod Moment
+pub mod Ways
 pub mod Waits
 pub mod Laws

@@ -7,8 +7,7 @@ use Rattle.smk_world.specs.Trees.{Path, outs_of, folders_of, is_folder_kind}
 use Rattle.smk_flow.specs.declared.job.Job.{Job}
 use Rattle.smk_store.specs.Images.{Image, is_whole}
 use Rattle.smk_plan.specs.States.{gathers_from}
-use Rattle.smk_plan_states.specs.declared.parts.Directory.{Directory}
-use Rattle.smk_plan_states.specs.declared.parts.Parts.{Parts}
+use Rattle.smk_plan_states.specs.Shapes.{Directory, Parts}
 
 -- the output, where it isn't whole
 abbrev pub gone_of : Out × Bool → List Path

@@ -6,9 +6,7 @@ use Rattle.smk_world.specs.Trees.{Path, among}
 use Rattle.smk_trigger.specs.declared.reason.State.{State}
 use Rattle.smk_trigger.specs.JobStates.{is_open, is_dirty, is_clean}
 use Rattle.smk_plan.specs.States.{test_some}
-use Rattle.smk_plan_states.specs.declared.parts.Directory.{Directory}
-use Rattle.smk_plan_states.specs.declared.parts.Parts.{Parts}
-use Rattle.smk_plan_states.specs.declared.sites.Site.{Site}
+use Rattle.smk_plan_states.specs.Shapes.{Directory, Parts, Site}
 
 -- the state of the job with this number
 abbrev pub state_at : List State → Option ℕ → Option State

@@ -1,7 +1,5 @@
 -- What is kept of paths.
 use Rattle.std.specs.Prelude.{◌≡◌, List, ◌++◌, map, bytes_eq, Option, option_map}
-use Rattle.smk_plan_states.specs.Keys.{at_key, has_key}
-use Rattle.std.specs.BTreeSet.{contains_text}
 use Rattle.std.specs.List.{find, flat_map, list_any}
 use Rattle.std.specs.Option.{option_and_then}
 use Rattle.smk_world.specs.World.{in_paths}
@@ -12,10 +10,7 @@ use Rattle.smk_chain.specs.declared.jobs.Jobs.{Jobs}
 use Rattle.smk_chain.specs.declared.jobs.Known.{Known}
 use Rattle.smk_chain.specs.declared.jobs.Maker.{Maker}
 use Rattle.smk_plan.specs.States.{none_or_one}
-use Rattle.smk_plan_states.specs.declared.parts.Directory.{Directory}
-use Rattle.smk_plan_states.specs.declared.parts.Parts.{Parts}
-use Rattle.smk_plan_states.specs.declared.paths.Paths.{Paths}
-use Rattle.smk_plan_states.specs.declared.sites.Site.{Site}
+use Rattle.smk_plan_states.specs.Shapes.{Directory, Parts, Paths, Site}
 use Rattle.smk_plan_states.specs.Parts.{parts_of}
 use Rattle.smk_plan_states.specs.Sites.{site_of}
 
@@ -40,8 +35,19 @@ site_at image jobs q = option_map (site_of image jobs.jobs) (find (λ (m : Maker
 
 -- What is kept of the paths of these jobs and targets is so.
 pub record ArePaths (image : Image) (jobs : Jobs) (asked : List Path) (paths : Paths) : Type 0 where
-  pub sites : (q : Path) → at_key paths.sites q ≡ site_at image jobs q
-  pub awaited : (q : Path) → contains_text paths.awaited q ≡ among (awaited_told (site_at image jobs) (map (parts_of image) jobs.jobs) asked) q
-  pub targets : (q : Path) → contains_text paths.targets q ≡ among asked q
-  pub read : (q : Path) → has_key paths.read q ≡ list_any (λ (j : Job). among (in_paths j.recipe) q) jobs.jobs
-  pub listed : (q : Path) → contains_text paths.listed q ≡ among (map (λ (k : Known). k.folder) jobs.lists) q
+  pub sites : (q : Path) → paths.sites q ≡ site_at image jobs q
+  pub awaited : (q : Path) → paths.awaited q ≡ among (awaited_told (site_at image jobs) (map (parts_of image) jobs.jobs) asked) q
+  pub targets : (q : Path) → paths.targets q ≡ among asked q
+  pub read : (q : Path) → paths.read q ≡ list_any (λ (j : Job). among (in_paths j.recipe) q) jobs.jobs
+  pub listed : (q : Path) → paths.listed q ≡ among (map (λ (k : Known). k.folder) jobs.lists) q
+
+-- the same as a value
+abbrev pub paths_of : Image → Jobs → List Path → Paths
+paths_of image jobs asked =
+    record {
+      sites = site_at image jobs;
+      awaited = λ q. among (awaited_told (site_at image jobs) (map (parts_of image) jobs.jobs) asked) q;
+      targets = λ q. among asked q;
+      read = λ q. list_any (λ (j : Job). among (in_paths j.recipe) q) jobs.jobs;
+      listed = λ q. among (map (λ (k : Known). k.folder) jobs.lists) q;
+    }

@@ -8,9 +8,7 @@ use Rattle.smk_flow.specs.declared.job.Job.{Job}
 use Rattle.smk_store.specs.Images.{Image}
 use Rattle.smk_chain.specs.declared.jobs.Maker.{Maker}
 use Rattle.smk_plan.specs.Sights.{job_at, is_whole_made}
-use Rattle.smk_plan_states.specs.declared.parts.Directory.{Directory}
-use Rattle.smk_plan_states.specs.declared.parts.Parts.{Parts}
-use Rattle.smk_plan_states.specs.declared.sites.Site.{Site}
+use Rattle.smk_plan_states.specs.Shapes.{Directory, Parts, Site}
 use Rattle.smk_plan_states.specs.Parts.{directory_at}
 
 -- the first directory of the parts that has the path under it

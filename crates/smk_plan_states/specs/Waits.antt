@@ -5,10 +5,7 @@ use Rattle.smk_world.specs.Trees.{Path}
 use Rattle.smk_trigger.specs.declared.reason.State.{State}
 use Rattle.smk_trigger.specs.JobStates.{is_clean}
 use Rattle.smk_plan.specs.States.{test_some, none_or_one}
-use Rattle.smk_plan_states.specs.declared.parts.Directory.{Directory}
-use Rattle.smk_plan_states.specs.declared.parts.Parts.{Parts}
-use Rattle.smk_plan_states.specs.declared.ready.Wait.{Wait}
-use Rattle.smk_plan_states.specs.declared.sites.Site.{Site}
+use Rattle.smk_plan_states.specs.Shapes.{Directory, Parts, Wait, Site}
 use Rattle.smk_plan_states.specs.Passes.{state_at}
 
 -- a job makes it that is Clean, and it is whole

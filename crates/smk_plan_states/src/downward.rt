@@ -1,123 +1,141 @@
-//! The second pass, from the last job to the first: what jobs that are to run want back.
+//! The last pass, from the last job to the first: what jobs that are to run want back.
 
-ghost use Rattle.std.specs.Prelude.{◌≡◌, ◌&&◌, ◌||◌, not, List as Items, length, map, option_map, Some, IfOk, OnOk};
-ghost use Rattle.std.specs.BTreeSet.{contains_text};
-ghost use Rattle.std.specs.List.{list_any, slice_get};
-ghost use Rattle.smk_world.specs.Trees.{Path, among};
+ghost use Rattle.std.specs.Prelude.{◌≡◌, ◌<◌, ◌||◌, ◌&&◌, ◌==◌, ℕ, List as Items, length, map, slice_index_or, false, [], IfOk};
+ghost use Rattle.std.specs.List.{list_any};
 ghost use Rattle.smk_chain.specs.declared.jobs.Jobs.{Jobs as JobsValue};
 ghost use Rattle.smk_trigger.specs.declared.reason.State.{State as StateValue};
-ghost use Rattle.smk_trigger.specs.JobStates.{is_to_run};
 ghost use Rattle.smk_plan_states.specs.Judged.{Judging};
-ghost use Rattle.smk_plan_states.specs.declared.parts.Parts.{Parts as PartsValue};
-ghost use Rattle.smk_plan_states.specs.declared.paths.Paths.{Paths as PathsValue};
-ghost use Rattle.smk_plan_states.specs.First.{first_states, unless_needed, IsSolved};
-ghost use Rattle.smk_plan_states.specs.InUse.{is_in_use_told};
+ghost use Rattle.smk_plan_states.specs.First.{first_states};
+ghost use Rattle.smk_plan_states.specs.Moment.{IsMoment};
+ghost use Rattle.smk_plan_states.specs.Ranks.{rank_of};
+ghost use Rattle.smk_plan_states.specs.Ranking.{has_link, is_link, is_needed_at, is_needed_by_flags, last_rank};
 
-use crate::in_use::is_in_use;
-use crate::parts::Parts;
-use crate::paths::put_all;
-use crate::upward::reversed;
-use smk_base::{List, OutOfMemory, PathText};
-use smk_trigger::State;
+use crate::lines::{Input, Line, Origin, Output};
+use crate::ranks::{Rank, is_to_run, unless_needed};
+use crate::rows::Rows;
+use crate::spots::{flag_at, row_at};
+use smk_base::OutOfMemory;
 use std::alloc::Global;
-use std::collections::BTreeSet;
 
-/// Whether one of the outputs is needed.
-pub(crate) fn any_needed(needed: &BTreeSet<String>, gone: &[PathText]) -> bool
-    ensures { result ≡ list_any (λ p. contains_text needed.now p) gone.now }
+/// Flags that are all false.
+pub(crate) fn unset(alloc: Global, count: usize) -> Result<Vec<bool>, OutOfMemory>
+    ensures each { IfOk result (λ flags. length flags.items ≡ count) }
+    ensures unset { IfOk result (λ flags. (n : ℕ) → slice_index_or flags.items n false ≡ false) }
 {
-    for path in gone {
-        if needed.contains(path.as_str()) {
+    Ok(vec![in alloc; false; count]?)
+}
+
+/// Sets the flag in this place, if there is one.
+pub(crate) fn set_at(flags: &mut Vec<bool>, place: Option<usize>)
+    ensures each { length flags.new.items ≡ length flags.old.items }
+    ensures set { (n : ℕ) → n < length flags.old.items
+        → slice_index_or flags.new.items n false ≡ (slice_index_or flags.old.items n false || is_link n place) }
+{
+    let Some(place) = place else {
+        return;
+    };
+    if place < flags.len() {
+        flags[place] = true;
+    }
+}
+
+/// Whether the path of the link is needed.
+fn is_needed_at(needed: &[bool], link: Option<usize>) -> bool
+    ensures { result ≡ is_needed_at needed.now link }
+{
+    match link {
+        Some(link) => flag_at(needed, link),
+        None => false,
+    }
+}
+
+/// Whether some output that isn't whole is needed.
+pub(crate) fn is_needed(needed: &[bool], outputs: &[Output], flags: &[bool]) -> bool
+    ensures { result ≡ is_needed_by_flags needed.now outputs.now flags.now }
+{
+    for (i, output) in outputs.iter().enumerate() {
+        let Some(whole) = flags.get(i) else {
+            return false;
+        };
+        if is_needed_at(needed, output.link) && !*whole {
             return true;
         }
     }
     false
 }
 
-// A Restore, where a job is Clean and one of its outputs that aren't whole is needed.
-fn unless_needed(state: State, needed: bool) -> State
-    ensures { result ≡ unless_needed needed state }
+// Sets the flags of what these inputs name.
+fn need_inputs(needed: &mut Vec<bool>, inputs: &[Input])
+    ensures each { length needed.new.items ≡ length needed.old.items }
+    ensures set { (n : ℕ) → n < length needed.old.items
+        → slice_index_or needed.new.items n false ≡ (slice_index_or needed.old.items n false || list_any (has_link n) inputs.now) }
 {
-    match state {
-        State::Clean => { if needed { State::Restore } else { State::Clean } }
-        other => other,
+    for input in inputs {
+        set_at(needed, input.link);
     }
 }
 
-fn is_to_run(state: &State) -> bool
-    ensures { result ≡ is_to_run state.now }
+/// Sets the flags of what a job reads, where it is to run.
+pub(crate) fn need(needed: &mut Vec<bool>, to_run: bool, inputs: &[Input])
+    ensures each { length needed.new.items ≡ length needed.old.items }
+    ensures set { (n : ℕ) → n < length needed.old.items
+        → slice_index_or needed.new.items n false ≡ (slice_index_or needed.old.items n false || (to_run && list_any (has_link n) inputs.now)) }
 {
-    matches!(state, State::Dirty(_) | State::Restore)
-}
-
-/// Adds what the job reads, where it is to run.
-pub(crate) fn need(
-    alloc: Global,
-    needed: &mut BTreeSet<String>,
-    state: &State,
-    inputs: &[PathText],
-) -> Result<(), OutOfMemory>
-    ensures { OnOk result ((q : Path) → contains_text needed.new q ≡ (contains_text needed.old q || (among inputs.now q && is_to_run state.now))) }
-{
-    if !is_to_run(state) {
-        return Ok(());
+    if to_run {
+        need_inputs(needed, inputs);
     }
-    put_all(alloc, needed, inputs)?;
-    Ok(())
 }
 
-// The parts of the job with this number.
-fn part_at(parts: &[Parts], number: usize) -> Option<&Parts>
-    ensures { option_map (λ p. p.now) result ≡ slice_get parts.now number }
+fn last_rank(
+    needed: &[bool],
+    rows: &Rows<'_>,
+    line: &Line,
+    number: usize,
+    used: bool,
+    first: Rank,
+) -> Rank
+    ensures { result ≡ last_rank needed.now rows.now line.now number used first }
 {
-    parts.get(number)
+    let wanted = is_needed(
+        needed,
+        line.outputs.as_slice(),
+        row_at(rows.outputs, number),
+    ) && !used;
+    unless_needed(wanted, first)
 }
 
-// The state of the job with these parts, and what it needs.
-fn last_state(
-    alloc: Global,
-    needed: &mut BTreeSet<String>,
-    in_use: &BTreeSet<String>,
-    part: Option<&Parts>,
-    first: State,
-) -> Result<State, OutOfMemory>
-    ensures { (m : PartsValue) → option_map (λ p. p.now) part.entry ≡ Some m
-        → IfOk result (λ state. (state ≡ unless_needed (list_any (λ p. contains_text needed.old p) m.gone && not (is_in_use_told (λ p. contains_text in_use.now p) m)) first)
-        × ((q : Path) → contains_text needed.new q ≡ (contains_text needed.old q || (among m.inputs q && is_to_run state)))) }
-{
-    let Some(part) = part else {
-        return Ok(first);
-    };
-    let wanted = any_needed(needed, part.gone.as_slice()) && !is_in_use(in_use, part);
-    let state = unless_needed(first, wanted);
-    need(alloc, needed, &state, part.inputs.as_slice())?;
-    Ok(state)
-}
-
-/// The state of each job, by the states of the first pass: a job that is Clean there is a Restore where a job that is to run reads an output
+/// The rank of each job, by the ranks of the first pass: a job that is Clean there is a Restore where a job that is to run reads an output
 /// of it that isn't whole, unless a child reads what it made.
-pub(crate) fn last_states(
+pub(crate) fn last_ranks(
     alloc: Global,
-    in_use: &BTreeSet<String>,
-    parts: &[Parts],
-    first: List<State>,
-) -> Result<List<State>, OutOfMemory>
-    ensures each { IfOk result (λ found. length found ≡ length first) }
-    ensures states { IfOk result (λ found. (at : Judging) (jobs : JobsValue) (states : Items StateValue) (paths : PathsValue)
-        → IsSolved at jobs states paths parts.now (λ p. contains_text in_use.now p) → first ≡ first_states at jobs states → found ≡ states) }
+    lines: &[Line],
+    origins: &[Origin],
+    rows: &Rows<'_>,
+    used: &[bool],
+    first: Vec<Rank>,
+) -> Result<Vec<Rank>, OutOfMemory>
+    requires each { length first.items ≡ length lines.now }
+    ensures each { IfOk result (λ ranks. length ranks.items ≡ length lines.now) }
+    ensures ranks { IfOk result (λ ranks. (at : Judging) (jobs : JobsValue) (states : Items StateValue)
+        → IsMoment at jobs states lines.now origins.now rows.now used.now
+        → first.items ≡ map rank_of (first_states at jobs states) → ranks.items ≡ map rank_of states) }
 {
-    let mut left = first;
-    let mut needed = BTreeSet::new(alloc);
-    let mut found = List::new(alloc);
-    'jobs: while let Some(before) = left.pop() {
-        let state = last_state(
-            alloc,
-            &mut needed,
-            in_use,
-            part_at(parts, left.len()),
-            before,
-        )?;
-        found.push(state)?;
+    let mut ranks = first;
+    let mut needed = unset(alloc, origins.len())?;
+    let mut number = lines.len();
+    'jobs: while number > 0 {
+        number -= 1;
+        let line = &lines[number];
+        let rank = last_rank(
+            needed.as_slice(),
+            rows,
+            line,
+            number,
+            flag_at(used, number),
+            ranks[number],
+        );
+        need(&mut needed, is_to_run(rank), line.inputs.as_slice());
+        ranks[number] = rank;
     }
-    reversed(alloc, found)
+    Ok(ranks)
 }

@@ -1,111 +1,98 @@
 //! Which jobs are held back: to be restored, but counted as Clean while a child reads what they made.
 
-ghost use Rattle.std.specs.Prelude.{◌≡◌, ◌&&◌, is_none, IfOk};
-ghost use Rattle.std.specs.BTreeSet.{contains_text};
+ghost use Rattle.std.specs.Prelude.{◌≡◌, ◌<◌, ◌&&◌, ◌||◌, ℕ, is_none, length, slice_index_or, false, IfOk};
 ghost use Rattle.std.specs.List.{list_any, zip};
-ghost use Rattle.smk_world.specs.Trees.{Path};
-ghost use Rattle.smk_trigger.specs.JobStates.{is_clean};
-ghost use Rattle.smk_plan_states.specs.Held.{needed_told, is_kept_in, is_held_told, any_held_told};
+ghost use Rattle.smk_trigger.specs.JobStates.{is_clean, is_to_run};
+ghost use Rattle.smk_plan_states.specs.Rows.{lent};
+ghost use Rattle.smk_plan_states.specs.Ranking.{is_held_by, is_kept_by, is_needed_by_flags, is_needed_in};
 
-use crate::downward::{any_needed, need};
-use crate::in_use::{in_use_of, is_in_use};
-use crate::parts::Parts;
-use crate::paths::Paths;
+use crate::downward::{is_needed, need, unset};
+use crate::lines::{Line, Output};
 use crate::upward::is_kept;
-use smk_base::{OutOfMemory, PathText};
+use smk_base::{List, OutOfMemory};
 use smk_trigger::State;
 use std::alloc::Global;
-use std::collections::BTreeSet;
 
-// The inputs of the jobs that are to run.
-fn needed_in(
-    alloc: Global,
-    parts: &[Parts],
-    states: &[State],
-) -> Result<BTreeSet<String>, OutOfMemory>
-    ensures { IfOk result (λ needed. (q : Path) → contains_text needed q ≡ needed_told parts.now states.now q) }
+fn is_to_run(state: &State) -> bool
+    ensures { result ≡ is_to_run state.now }
 {
-    let mut needed = BTreeSet::new(alloc);
-    for (i, part) in parts.iter().enumerate() {
+    matches!(state, State::Dirty(_) | State::Restore)
+}
+
+/// For each link whether a job that is to run reads its path; there are so many of them.
+pub(crate) fn needed_in(
+    alloc: Global,
+    count: usize,
+    lines: &[Line],
+    states: &[State],
+) -> Result<Vec<bool>, OutOfMemory>
+    ensures { IfOk result (λ needed. (n : ℕ) → n < count → slice_index_or needed.items n false ≡ is_needed_in lines.now states.now n) }
+{
+    let mut needed = unset(alloc, count)?;
+    for (i, line) in lines.iter().enumerate() {
         let Some(state) = states.get(i) else {
             return Ok(needed);
         };
-        need(alloc, &mut needed, state, part.inputs.as_slice())?;
+        need(&mut needed, is_to_run(state), line.inputs.as_slice());
     }
     Ok(needed)
 }
 
 // Whether the job counts as Clean, and no child of it runs.
-fn is_resting(state: &State, kept: &Option<State>) -> bool
-    ensures { result ≡ (is_none kept.now && is_clean state.now) }
+fn is_resting(state: &State, begun: &Option<State>) -> bool
+    ensures { result ≡ (is_none begun.now && is_clean state.now) }
 {
-    kept.is_none() && matches!(state, State::Clean)
+    begun.is_none() && matches!(state, State::Clean)
+}
+
+// Whether some output that isn't whole is wanted back.
+fn is_wanted(needed: &[bool], outputs: &[Output], flags: &[bool]) -> bool
+    ensures { result ≡ (is_needed_by_flags needed.now outputs.now flags.now || is_kept_by outputs.now flags.now) }
+{
+    is_needed(needed, outputs, flags) || is_kept(outputs, flags)
 }
 
 // Whether the job is held back.
 fn is_held(
-    alloc: Global,
-    paths: &Paths<'_>,
-    needed: &BTreeSet<String>,
-    in_use: &BTreeSet<String>,
-    part: &Parts,
+    needed: &[bool],
+    line: &Line,
     state: &State,
-    kept: &Option<State>,
-) -> Result<bool, OutOfMemory>
-    ensures { IfOk result (λ held. held ≡ is_held_told (is_kept_in paths.now) (λ q. contains_text needed.now q) (λ q. contains_text in_use.now q)
-        (part.now, (state.now, kept.now))) }
+    begun: &Option<State>,
+    used: bool,
+    flags: &[bool],
+) -> bool
+    ensures { result ≡ is_held_by needed.now (line.now, (state.now, (begun.now, (used, flags.now)))) }
 {
-    if !is_resting(state, kept) {
-        return Ok(false);
-    }
-    if !is_in_use(in_use, part) {
-        return Ok(false);
-    }
-    if any_needed(needed, part.gone.as_slice()) {
-        return Ok(true);
-    }
-    is_kept(alloc, paths, part)
+    is_resting(state, begun) && (used && is_wanted(needed, line.outputs.as_slice(), flags))
 }
 
-// Whether one of the jobs is held back.
-fn is_any_held(
-    alloc: Global,
-    paths: &Paths<'_>,
-    needed: &BTreeSet<String>,
-    in_use: &BTreeSet<String>,
-    parts: &[Parts],
+/// Whether one of the jobs is held back. `used` has for each job whether a child reads what it made.
+pub(crate) fn is_any_held(
+    needed: &[bool],
+    lines: &[Line],
     states: &[State],
     running: &[Option<State>],
-) -> Result<bool, OutOfMemory>
-    ensures { IfOk result (λ held. held ≡ list_any (is_held_told (is_kept_in paths.now) (λ q. contains_text needed.now q) (λ q. contains_text in_use.now q))
-        (zip parts.now (zip states.now running.now))) }
+    used: &[bool],
+    outputs: &[&List<bool>],
+) -> bool
+    ensures { result ≡ list_any (is_held_by needed.now) (zip lines.now (zip states.now (zip running.now (zip used.now (lent outputs.now))))) }
 {
-    for (i, part) in parts.iter().enumerate() {
+    for (i, line) in lines.iter().enumerate() {
         let Some(state) = states.get(i) else {
-            return Ok(false);
+            return false;
         };
-        let Some(kept) = running.get(i) else {
-            return Ok(false);
+        let Some(begun) = running.get(i) else {
+            return false;
         };
-        if is_held(alloc, paths, needed, in_use, part, state, kept)? {
-            return Ok(true);
+        let Some(used) = used.get(i) else {
+            return false;
+        };
+        let Some(flags) = outputs.get(i) else {
+            return false;
+        };
+        if is_held(needed, line, state, begun, *used, flags.as_slice()) {
+            return true;
         }
     }
-    Ok(false)
-}
-
-/// Whether a job with these parts is held back. `running` has for each job whose child runs a state.
-pub(crate) fn any_held(
-    alloc: Global,
-    paths: &Paths<'_>,
-    parts: &[Parts],
-    states: &[State],
-    running: &[Option<State>],
-) -> Result<bool, OutOfMemory>
-    ensures { IfOk result (λ held. held ≡ any_held_told paths.now parts.now states.now running.now) }
-{
-    let in_use = in_use_of(alloc, paths, parts, running)?;
-    let needed = needed_in(alloc, parts, states)?;
-    let held = is_any_held(alloc, paths, &needed, &in_use, parts, states, running)?;
-    Ok(held)
+    false
 }

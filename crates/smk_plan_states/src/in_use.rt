@@ -1,114 +1,69 @@
 //! From which jobs the children of others read.
 
-ghost use Rattle.std.specs.Prelude.{◌≡◌, ◌||◌, bytes_eq, option_map, IfOk, OnOk};
-ghost use Rattle.smk_plan_states.specs.Keys.{at_key};
-ghost use Rattle.std.specs.BTreeSet.{contains_text};
+ghost use Rattle.std.specs.Prelude.{◌≡◌, ◌<◌, ◌||◌, ◌&&◌, ℕ, length, slice_index_or, false, IfOk};
 ghost use Rattle.std.specs.List.{list_any};
-ghost use Rattle.smk_world.specs.Trees.{Path, first};
-ghost use Rattle.smk_pattern.specs.Reading.{or_empty};
-ghost use Rattle.smk_plan_states.specs.InUse.{maker_parts, maker_name, is_made_for, in_use_told, is_in_use_told};
+ghost use Rattle.smk_plan_states.specs.Ranking.{is_made_by_other, is_read_by_child};
 
-use crate::parts::Parts;
-use crate::paths::Paths;
-use smk_base::{OutOfMemory, PathText};
-use smk_chain::sets::put;
+use crate::downward::{set_at, unset};
+use crate::lines::{Input, Line, Origin};
+use crate::spots::maker_at;
+use smk_base::OutOfMemory;
 use smk_trigger::State;
 use std::alloc::Global;
-use std::collections::BTreeSet;
 
-// The parts of the job that makes the path; none for a source.
-fn maker_of<'p>(paths: &Paths<'_>, parts: &'p [Parts], path: &PathText) -> Option<&'p Parts>
-    ensures { option_map (λ m. m.now) result ≡ maker_parts parts.now (at_key paths.now.sites path.now) }
+// Sets the flag of the job that makes the input, where it is another one than the reader.
+fn hold(used: &mut Vec<bool>, origins: &[Origin], input: &Input)
+    ensures each { length used.new.items ≡ length used.old.items }
+    ensures set { (n : ℕ) → n < length used.old.items
+        → slice_index_or used.new.items n false ≡ (slice_index_or used.old.items n false || is_made_by_other origins.now n input.now) }
 {
-    let site = paths.sites.get(path.as_str())?;
-    parts.get(site.job? as usize)
-}
-
-// The first output of the job that makes the path; none for a source.
-fn maker_name<'p>(paths: &Paths<'_>, parts: &'p [Parts], path: &PathText) -> Option<&'p PathText>
-    ensures { option_map (λ p. p.now) result ≡ maker_name parts.now (at_key paths.now.sites path.now) }
-{
-    match maker_of(paths, parts, path) {
-        Some(maker) => maker.outputs.as_slice().first(),
-        None => None,
+    if !input.other {
+        return;
+    }
+    match maker_at(origins, input.link) {
+        Some(number) => set_at(used, Some(number as usize)),
+        None => (),
     }
 }
 
-// Whether the job has this name, which is that of its first output.
-fn is_named(reader: &Parts, name: &PathText) -> bool
-    ensures { result ≡ bytes_eq name.now (or_empty (first reader.now.outputs)) }
+// Sets the flags of the other jobs that make these inputs.
+fn hold_inputs(used: &mut Vec<bool>, origins: &[Origin], inputs: &[Input])
+    ensures each { length used.new.items ≡ length used.old.items }
+    ensures set { (n : ℕ) → n < length used.old.items
+        → slice_index_or used.new.items n false ≡ (slice_index_or used.old.items n false || list_any (is_made_by_other origins.now n) inputs.now) }
 {
-    match reader.outputs.as_slice() {
-        [own, ..] => name.as_str() == own.as_str(),
-        [] => name.as_str() == "",
+    for input in inputs {
+        hold(used, origins, input);
     }
 }
 
-// Adds the job that makes the path, where it is another one than the reader.
-fn hold(
+// Sets the flags of the other jobs that make what the job reads, where its child runs.
+fn hold_line(used: &mut Vec<bool>, origins: &[Origin], line: &Line, runs: bool)
+    ensures each { length used.new.items ≡ length used.old.items }
+    ensures set { (n : ℕ) → n < length used.old.items
+        → slice_index_or used.new.items n false ≡ (slice_index_or used.old.items n false || (runs && list_any (is_made_by_other origins.now n) line.now.inputs)) }
+{
+    if runs {
+        hold_inputs(used, origins, line.inputs.as_slice());
+    }
+}
+
+/// For each job whether the child of another one reads what it made. `running` has for each job whose child runs a state.
+pub(crate) fn used_in(
     alloc: Global,
-    in_use: &mut BTreeSet<String>,
-    paths: &Paths<'_>,
-    parts: &[Parts],
-    reader: &Parts,
-    path: &PathText,
-) -> Result<(), OutOfMemory>
-    ensures { OnOk result ((name : Path) → contains_text in_use.new name ≡ (contains_text in_use.old name
-        || is_made_for (λ q. at_key paths.now.sites q) parts.now reader.now name path.now)) }
-{
-    let Some(name) = maker_name(paths, parts, path) else {
-        return Ok(());
-    };
-    if is_named(reader, name) {
-        return Ok(());
-    }
-    put(alloc, in_use, name)
-}
-
-// Adds the other jobs that make inputs of the reader.
-fn hold_inputs(
-    alloc: Global,
-    in_use: &mut BTreeSet<String>,
-    paths: &Paths<'_>,
-    parts: &[Parts],
-    reader: &Parts,
-) -> Result<(), OutOfMemory>
-    ensures { OnOk result ((name : Path) → contains_text in_use.new name ≡ (contains_text in_use.old name
-        || list_any (is_made_for (λ q. at_key paths.now.sites q) parts.now reader.now name) reader.now.inputs)) }
-{
-    for path in reader.inputs.as_slice() {
-        hold(alloc, in_use, paths, parts, reader, path)?;
-    }
-    Ok(())
-}
-
-/// The jobs that made what the children of other jobs read, by their first outputs. `running` has for each job whose child runs a state.
-pub(crate) fn in_use_of(
-    alloc: Global,
-    paths: &Paths<'_>,
-    parts: &[Parts],
+    lines: &[Line],
+    origins: &[Origin],
     running: &[Option<State>],
-) -> Result<BTreeSet<String>, OutOfMemory>
-    ensures { IfOk result (λ in_use. (name : Path) → contains_text in_use name ≡ in_use_told (λ q. at_key paths.now.sites q) parts.now running.now name) }
+) -> Result<Vec<bool>, OutOfMemory>
+    ensures each { IfOk result (λ used. length used.items ≡ length lines.now) }
+    ensures used { IfOk result (λ used. (n : ℕ) → n < length lines.now → slice_index_or used.items n false ≡ is_read_by_child lines.now origins.now running.now n) }
 {
-    let mut in_use = BTreeSet::new(alloc);
-    for (i, reader) in parts.iter().enumerate() {
-        let Some(kept) = running.get(i) else {
-            return Ok(in_use);
+    let mut used = unset(alloc, lines.len())?;
+    for (i, line) in lines.iter().enumerate() {
+        let Some(begun) = running.get(i) else {
+            return Ok(used);
         };
-        if kept.is_some() {
-            hold_inputs(alloc, &mut in_use, paths, parts, reader)?;
-        }
+        hold_line(&mut used, origins, line, begun.is_some());
     }
-    Ok(in_use)
-}
-
-/// Whether a child reads what the job made.
-pub(crate) fn is_in_use(in_use: &BTreeSet<String>, part: &Parts) -> bool
-    ensures { result ≡ is_in_use_told (λ p. contains_text in_use.now p) part.now }
-{
-    match part.outputs.as_slice() {
-        [name, ..] => in_use.contains(name.as_str()),
-        [] => false,
-    }
+    Ok(used)
 }

@@ -1,20 +1,28 @@
 //! The states of the jobs of a plan.
 #![tactic(auto)]
 
+mod awaits;
 mod downward;
+mod folders;
 mod holding;
 mod in_use;
 mod judged;
 mod laws;
+mod lines;
+mod making;
 mod opening;
-mod parts;
-mod paths;
+mod ranks;
 mod ready;
 mod reasons;
-mod sites;
+mod rows;
+mod spots;
 mod table;
 mod upward;
+mod ways;
 
 pub use judged::Judged;
 pub use laws::linked_jobs_serve;
+pub use lines::{Awaited, Gathered, Input, Line, Origin, Output, Target, Temp};
+pub use reasons::{reasons_again, state_again};
+pub use rows::Rows;
 pub use table::Table;

@@ -1,117 +1,86 @@
-//! Which jobs are Open, by the states of the jobs before them.
+//! Which jobs are Open, by the ranks of the jobs before them.
 
-ghost use Rattle.std.specs.Prelude.{◌≡◌, ◌||◌, is_some, option_map};
-ghost use Rattle.smk_plan_states.specs.Keys.{at_key};
-ghost use Rattle.std.specs.BTreeSet.{contains_text};
+ghost use Rattle.std.specs.Prelude.{◌≡◌, is_some};
 ghost use Rattle.std.specs.List.{list_any};
-ghost use Rattle.smk_trigger.specs.JobStates.{is_open, is_dirty, is_clean};
 ghost use Rattle.smk_plan.specs.States.{test_some};
-ghost use Rattle.smk_plan_states.specs.Passes.{state_at, over_opens, reading_opens, gathering_opens, opens};
+ghost use Rattle.smk_plan_states.specs.Ranks.{rank_at};
+ghost use Rattle.smk_plan_states.specs.Spots.{spot_in};
+ghost use Rattle.smk_plan_states.specs.Ranking.{over_opens_by, reading_opens_by, gathering_opens_by, input_opens, gathered_opens, opens_by};
 
-use crate::parts::Parts;
-use crate::paths::Paths;
-use crate::sites::Site;
-use smk_base::PathText;
-use smk_trigger::State;
-
-fn state_at(states: &[State], number: Option<u32>) -> Option<&State>
-    ensures { option_map (λ s. s.now) result ≡ state_at states.now number }
-{
-    match number {
-        Some(number) => states.get(number as usize),
-        None => None,
-    }
-}
-
-// Whether a job makes it, which is Open.
-fn is_made_open(states: &[State], site: &Site) -> bool
-    ensures { result ≡ test_some is_open (state_at states.now site.now.job) }
-{
-    matches!(state_at(states, site.job), Some(State::Open))
-}
-
-/// Whether a job makes it, which is Dirty.
-pub(crate) fn is_made_dirty(states: &[State], site: &Site) -> bool
-    ensures { result ≡ test_some is_dirty (state_at states.now site.now.job) }
-{
-    matches!(state_at(states, site.job), Some(State::Dirty(_)))
-}
-
-/// Whether a job makes it, which is Clean.
-pub(crate) fn is_made_clean(states: &[State], site: &Site) -> bool
-    ensures { result ≡ test_some is_clean (state_at states.now site.now.job) }
-{
-    matches!(state_at(states, site.job), Some(State::Clean))
-}
-
-// Whether a job makes it.
-fn is_made(states: &[State], site: &Site) -> bool
-    ensures { result ≡ is_some (state_at states.now site.now.job) }
-{
-    state_at(states, site.job).is_some()
-}
+use crate::lines::{Gathered, Input, Line, Origin};
+use crate::ranks::{Rank, is_clean, is_open as is_open_rank, rank_at};
+use crate::rows::Rows;
+use crate::spots::{Spot, spot_at};
 
 // Whether it is a member of a directory that isn't there whole by a job that is Clean.
-fn over_opens(states: &[State], site: &Site) -> bool
-    ensures { result ≡ over_opens states.now site.now }
+fn over_opens(ranks: &[Rank], spot: Spot) -> bool
+    ensures { result ≡ over_opens_by ranks.now spot }
 {
-    match &site.over {
-        Some(directory) => !(is_made_clean(states, site) && directory.whole),
+    match spot.over {
+        Some(whole) => !(is_clean(rank_at(ranks, spot.job)) && whole),
         None => false,
     }
 }
 
 // Whether a job is Open that reads the path.
-fn reading_opens(states: &[State], paths: &Paths<'_>, path: &PathText) -> bool
-    ensures { result ≡ test_some (reading_opens states.now) (at_key paths.now.sites path.now) }
+fn reading_opens(ranks: &[Rank], spot: Option<Spot>) -> bool
+    ensures { result ≡ test_some (reading_opens_by ranks.now) spot }
 {
-    match paths.sites.get(path.as_str()) {
-        Some(site) => is_made_open(states, site) || over_opens(states, site),
+    match spot {
+        Some(spot) => is_open_rank(rank_at(ranks, spot.job)) || over_opens(ranks, spot),
         None => false,
     }
 }
 
-// Whether a job is Open that gathers from the directory.
-fn gathering_opens(states: &[State], paths: &Paths<'_>, folder: &PathText) -> bool
-    ensures { result ≡ test_some (gathering_opens states.now (contains_text paths.now.listed folder.now)) (at_key paths.now.sites folder.now) }
+// Whether a job is Open that gathers from the directory, of which the files are known or not.
+fn gathering_opens(ranks: &[Rank], listed: bool, spot: Option<Spot>) -> bool
+    ensures { result ≡ test_some (gathering_opens_by ranks.now listed) spot }
 {
-    match paths.sites.get(folder.as_str()) {
-        Some(site) => {
-            over_opens(states, site)
-                || (is_made(states, site)
-                    && (!(is_made_clean(states, site) && site.whole)
-                        || !paths.listed.contains(folder.as_str())))
+    match spot {
+        Some(spot) => {
+            let rank = rank_at(ranks, spot.job);
+            over_opens(ranks, spot)
+                || (rank.is_some() && (!(is_clean(rank) && spot.whole) || !listed))
         }
         None => false,
     }
 }
 
-fn any_reading_opens(states: &[State], paths: &Paths<'_>, inputs: &[PathText]) -> bool
-    ensures { result ≡ list_any (λ q. test_some (reading_opens states.now) (at_key paths.now.sites q)) inputs.now }
+fn any_input_opens(ranks: &[Rank], origins: &[Origin], rows: &Rows<'_>, inputs: &[Input]) -> bool
+    ensures { result ≡ list_any (input_opens ranks.now (spot_in origins.now rows.now)) inputs.now }
 {
-    for path in inputs {
-        if reading_opens(states, paths, path) {
+    for input in inputs {
+        if reading_opens(ranks, spot_at(origins, rows, input.link)) {
             return true;
         }
     }
     false
 }
 
-fn any_gathering_opens(states: &[State], paths: &Paths<'_>, folders: &[PathText]) -> bool
-    ensures { result ≡ list_any (λ q. test_some (gathering_opens states.now (contains_text paths.now.listed q)) (at_key paths.now.sites q)) folders.now }
+fn any_gathered_opens(
+    ranks: &[Rank],
+    origins: &[Origin],
+    rows: &Rows<'_>,
+    gathers: &[Gathered],
+) -> bool
+    ensures { result ≡ list_any (gathered_opens ranks.now (spot_in origins.now rows.now)) gathers.now }
 {
-    for folder in folders {
-        if gathering_opens(states, paths, folder) {
+    for gathered in gathers {
+        if gathering_opens(
+            ranks,
+            gathered.listed,
+            spot_at(origins, rows, gathered.link),
+        ) {
             return true;
         }
     }
     false
 }
 
-/// Whether the job is Open, by the states of the jobs before it.
-pub(crate) fn is_open(states: &[State], paths: &Paths<'_>, part: &Parts) -> bool
-    ensures { result ≡ opens states.now (λ q. at_key paths.now.sites q) (λ q. contains_text paths.now.listed q) part.now }
+/// Whether the job is Open, by the ranks of the jobs before it.
+pub(crate) fn is_open(ranks: &[Rank], origins: &[Origin], rows: &Rows<'_>, line: &Line) -> bool
+    ensures { result ≡ opens_by ranks.now (spot_in origins.now rows.now) line.now }
 {
-    any_reading_opens(states, paths, part.inputs.as_slice())
-        || any_gathering_opens(states, paths, part.gathers.as_slice())
+    any_input_opens(ranks, origins, rows, line.inputs.as_slice())
+        || any_gathered_opens(ranks, origins, rows, line.gathers.as_slice())
 }

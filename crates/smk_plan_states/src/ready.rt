@@ -1,188 +1,112 @@
 //! What is ready by the states of jobs: targets, and directories that are awaited.
 
-ghost use Rattle.std.specs.Prelude.{◌≡◌, ◌&&◌, ◌||◌, ◌++◌, ◌∷◌, [], not, Bool, List as Items, map, filter, bytes_eq, IfOk, OnOk, if◌then◌else◌};
-ghost use Rattle.smk_plan_states.specs.Keys.{at_key};
-ghost use Rattle.std.specs.BTreeSet.{contains_text};
-ghost use Rattle.std.specs.List.{flat_map};
-ghost use Rattle.smk_world.specs.Trees.{Path};
-ghost use Rattle.smk_chain.specs.Derive.{distinct};
-ghost use Rattle.smk_plan_states.specs.Waits.{ready_told, over_waits, part_waits, waits_told, waits_of};
+ghost use Rattle.std.specs.Prelude.{◌≡◌, ◌++◌, ◌&&◌, not, map, filter, IfOk, OnOk, if◌then◌else◌, ◌∷◌, []};
+ghost use Rattle.smk_trigger.specs.JobStates.{is_clean};
+ghost use Rattle.smk_plan.specs.States.{test_some};
+ghost use Rattle.smk_plan_states.specs.Passes.{state_at};
+ghost use Rattle.smk_plan_states.specs.Spots.{spot_in, is_ready_spot, is_over_ready};
+ghost use Rattle.smk_plan_states.specs.Ranking.{is_new_awaited};
 
-use crate::opening::is_made_clean;
-use crate::parts::Parts;
-use crate::sites::Site;
+use crate::lines::{Awaited, Origin, Target};
+use crate::rows::Rows;
+use crate::spots::{Spot, spot_at};
 use smk_base::{List, OutOfMemory, PathText};
-use smk_chain::sets::put;
 use smk_trigger::State;
 use std::alloc::Global;
-use std::collections::{BTreeMap, BTreeSet};
 
-/// An awaited directory, and whether it is ready.
-#[derive(Drop)]
-pub(crate) struct Wait {
-    pub(crate) path: PathText,
-    pub(crate) ready: bool,
-}
-
-// Whether a job makes the path that is Clean, and it is whole.
-fn is_ready(sites: &BTreeMap<&str, Site>, states: &[State], path: &PathText) -> bool
-    ensures { result ≡ ready_told states.now (at_key sites.now path.now) }
+// Whether there is a job with this number, which is Clean.
+fn is_made_clean(states: &[State], number: Option<u32>) -> bool
+    ensures { result ≡ test_some is_clean (state_at states.now number) }
 {
-    match sites.get(path.as_str()) {
-        Some(site) => is_made_clean(states, site) && site.whole,
+    match number {
+        Some(number) => matches!(states.get(number as usize), Some(State::Clean)),
         None => false,
     }
 }
 
-// Adds the directory output over the path.
-fn push_over(
-    alloc: Global,
-    found: &mut List<Wait>,
-    sites: &BTreeMap<&str, Site>,
-    states: &[State],
-    path: &PathText,
-) -> Result<(), OutOfMemory>
-    ensures { OnOk result (found.new ≡ found.old ++ over_waits states.now (at_key sites.now path.now)) }
+// Whether a job makes the path that is Clean, and it is whole.
+fn is_ready(states: &[State], spot: Option<Spot>) -> bool
+    ensures { result ≡ test_some (is_ready_spot states.now) spot }
 {
-    let Some(site) = sites.get(path.as_str()) else {
-        return Ok(());
+    match spot {
+        Some(spot) => is_made_clean(states, spot.job) && spot.whole,
+        None => false,
+    }
+}
+
+// The same of the directory over the path.
+fn is_over_ready(states: &[State], spot: Option<Spot>) -> bool
+    ensures { result ≡ test_some (is_over_ready states.now) spot }
+{
+    let Some(spot) = spot else {
+        return false;
     };
-    match &site.over {
-        Some(directory) => found.push(Wait {
-            path: directory.path.copy(alloc)?,
-            ready: is_made_clean(states, site) && directory.whole,
-        }),
-        None => Ok(()),
+    match spot.over {
+        Some(whole) => is_made_clean(states, spot.job) && whole,
+        None => false,
     }
 }
 
-// Adds the directory outputs over the paths.
-fn push_overs(
+/// For each target whether it is ready.
+pub(crate) fn ready_in(
     alloc: Global,
-    found: &mut List<Wait>,
-    sites: &BTreeMap<&str, Site>,
+    origins: &[Origin],
+    rows: &Rows<'_>,
     states: &[State],
-    paths: &[PathText],
-) -> Result<(), OutOfMemory>
-    ensures { OnOk result (found.new ≡ found.old ++ flat_map (λ q. over_waits states.now (at_key sites.now q)) paths.now) }
+    targets: &[Target],
+) -> Result<List<bool>, OutOfMemory>
+    ensures { IfOk result (λ ready. ready ≡ map (λ t. test_some (is_ready_spot states.now) (spot_in origins.now rows.now t.link)) targets.now) }
 {
-    for path in paths {
-        push_over(alloc, found, sites, states, path)?;
+    let mut ready = List::new(alloc);
+    for target in targets {
+        ready.push(is_ready(states, spot_at(origins, rows, target.link)))?;
     }
-    Ok(())
+    Ok(ready)
 }
 
-// Adds the directories that are gathered from.
-fn push_gathered(
-    alloc: Global,
-    found: &mut List<Wait>,
-    sites: &BTreeMap<&str, Site>,
-    states: &[State],
-    folders: &[PathText],
-) -> Result<(), OutOfMemory>
-    ensures { OnOk result (found.new ≡ found.old ++ map (λ d. record { path = d; ready = ready_told states.now (at_key sites.now d) }) folders.now) }
+// Whether the directory is ready, and has no listing.
+fn is_new(states: &[State], origins: &[Origin], rows: &Rows<'_>, awaited: &Awaited) -> bool
+    ensures { result ≡ is_new_awaited states.now (spot_in origins.now rows.now) awaited.now }
 {
-    for folder in folders {
-        let ready = is_ready(sites, states, folder);
-        found.push(Wait {
-            path: folder.copy(alloc)?,
-            ready,
-        })?;
-    }
-    Ok(())
-}
-
-// Adds the directories that the job awaits.
-fn push_waits(
-    alloc: Global,
-    found: &mut List<Wait>,
-    sites: &BTreeMap<&str, Site>,
-    states: &[State],
-    part: &Parts,
-) -> Result<(), OutOfMemory>
-    ensures { OnOk result (found.new ≡ found.old ++ part_waits states.now (λ q. at_key sites.now q) part.now) }
-{
-    push_gathered(alloc, found, sites, states, part.gathers.as_slice())?;
-    push_overs(alloc, found, sites, states, part.inputs.as_slice())?;
-    push_overs(alloc, found, sites, states, part.gathers.as_slice())?;
-    Ok(())
-}
-
-/// The directories that the jobs await, and those of which a target is a member; one may come again.
-pub(crate) fn waits_in(
-    alloc: Global,
-    sites: &BTreeMap<&str, Site>,
-    states: &[State],
-    parts: &[Parts],
-    targets: &[PathText],
-) -> Result<List<Wait>, OutOfMemory>
-    ensures { IfOk result (λ found. found ≡ waits_told states.now (λ q. at_key sites.now q) parts.now targets.now) }
-{
-    let mut found = List::new(alloc);
-    for part in parts {
-        push_waits(alloc, &mut found, sites, states, part)?;
-    }
-    push_overs(alloc, &mut found, sites, states, targets)?;
-    Ok(found)
-}
-
-// Whether the directory is ready, has no listing, and wasn't seen.
-fn is_new(listed: &BTreeSet<String>, seen: &BTreeSet<String>, wait: &Wait) -> bool
-    ensures { result ≡ ((wait.now.ready && not (contains_text listed.now wait.now.path)) && not (contains_text seen.now wait.now.path)) }
-{
-    let path = wait.path.as_str();
-    (wait.ready && !listed.contains(path)) && !seen.contains(path)
+    let spot = spot_at(origins, rows, awaited.link);
+    let ready = if awaited.over {
+        is_over_ready(states, spot)
+    } else {
+        is_ready(states, spot)
+    };
+    ready && !awaited.listed
 }
 
 // Adds the path, where it is new.
 fn push_new(
     alloc: Global,
     found: &mut List<PathText>,
-    seen: &mut BTreeSet<String>,
     path: &PathText,
     fresh: bool,
 ) -> Result<(), OutOfMemory>
-    ensures found { OnOk result (found.new ≡ found.old ++ (if fresh then path.now ∷ [] else [])) }
-    ensures seen { OnOk result ((q : Path) → contains_text seen.new q ≡ (if fresh then (bytes_eq q path.now || contains_text seen.old q) else contains_text seen.old q)) }
+    ensures { OnOk result (found.new ≡ found.old ++ (if fresh then path.now ∷ [] else [])) }
 {
     if !fresh {
         return Ok(());
     }
-    put(alloc, seen, path)?;
     found.push(path.copy(alloc)?)?;
     Ok(())
 }
 
-/// The directories that are ready and have no listing, each once.
+/// The directories that are ready and have no listing.
 pub(crate) fn new_in(
     alloc: Global,
-    waits: &[Wait],
-    listed: &BTreeSet<String>,
+    origins: &[Origin],
+    rows: &Rows<'_>,
+    states: &[State],
+    awaited: &[Awaited],
 ) -> Result<List<PathText>, OutOfMemory>
-    ensures { IfOk result (λ found. (ready : Path → Bool) (paths : Items Path) → waits.now ≡ waits_of ready paths
-        → found ≡ filter (λ d. ready d && not (contains_text listed.now d)) (distinct bytes_eq paths)) }
+    ensures { IfOk result (λ found. found ≡ map (λ a. a.path) (filter (is_new_awaited states.now (spot_in origins.now rows.now)) awaited.now)) }
 {
     let mut found = List::new(alloc);
-    let mut seen = BTreeSet::new(alloc);
-    for wait in waits {
-        let fresh = is_new(listed, &seen, wait);
-        push_new(alloc, &mut found, &mut seen, &wait.path, fresh)?;
+    for one in awaited {
+        let fresh = is_new(states, origins, rows, one);
+        push_new(alloc, &mut found, &one.path, fresh)?;
     }
     Ok(found)
-}
-
-/// For each target whether it is ready.
-pub(crate) fn ready_in(
-    alloc: Global,
-    sites: &BTreeMap<&str, Site>,
-    states: &[State],
-    targets: &[PathText],
-) -> Result<List<bool>, OutOfMemory>
-    ensures { IfOk result (λ ready. ready ≡ map (λ t. ready_told states.now (at_key sites.now t)) targets.now) }
-{
-    let mut ready = List::new(alloc);
-    for target in targets {
-        ready.push(is_ready(sites, states, target))?;
-    }
-    Ok(ready)
 }

@@ -1,55 +1,80 @@
-//! The reasons of a job, those that other jobs give among them.
+//! The states of jobs by their ranks, with the reasons of those that are Dirty.
 
-ghost use Rattle.std.specs.Prelude.{◌≡◌, ◌||◌, ◌&&◌, not, ◌++◌, List as Items, map, filter, bytes_eq, IfOk, OnOk, if◌then◌else◌};
-ghost use Rattle.smk_plan_states.specs.Keys.{at_key};
-ghost use Rattle.std.specs.BTreeSet.{contains_text};
+ghost use Rattle.std.specs.Prelude.{◌≡◌, ◌++◌, Bool, List as Items, length, map, option_map, slice_index_or, None, false, [], IfOk, OnOk};
 ghost use Rattle.smk_world.specs.Trees.{Path};
-ghost use Rattle.smk_chain.specs.Derive.{distinct};
+ghost use Rattle.smk_chain.specs.declared.jobs.Jobs.{Jobs as JobsValue};
 ghost use Rattle.smk_trigger.specs.declared.reason.Reason.{Reason as ReasonValue};
+ghost use Rattle.smk_trigger.specs.declared.reason.State.{State as StateValue};
 ghost use Rattle.smk_trigger.specs.Reasons.{when};
-ghost use Rattle.smk_plan_states.specs.Passes.{is_dirty_told};
+ghost use Rattle.smk_plan_states.specs.Judged.{Judging};
+ghost use Rattle.smk_plan_states.specs.Moment.{IsMoment};
+ghost use Rattle.smk_plan_states.specs.Ranks.{rank_of, state_by, plain_state};
+ghost use Rattle.smk_plan_states.specs.Ranking.{is_upstream, upstream_paths};
+ghost use Rattle.smk_plan_states.specs.Rows.{lent};
 
-use crate::opening::is_made_dirty;
-use crate::paths::Paths;
-use smk_base::{List, OutOfMemory, PathText};
-use smk_chain::sets::put;
+use crate::lines::{Input, Line, Origin};
+use crate::ranks::Rank;
+use crate::rows::Rows;
+use crate::spots::{began_at, flag_at, row_at};
+use crate::upward::is_upstream;
+use smk_base::{List, OutOfMemory};
 use smk_trigger::{Reason, State};
 use std::alloc::Global;
-use std::collections::BTreeSet;
 
-// Whether the job that makes the path is Dirty.
-fn is_dirty(states: &[State], paths: &Paths<'_>, path: &PathText) -> bool
-    ensures { result ≡ is_dirty_told states.now (λ q. at_key paths.now.sites q) path.now }
+// A copy of the reason.
+fn reason_again(alloc: Global, reason: &Reason) -> Result<Reason, OutOfMemory>
+    ensures { IfOk result (λ copy. copy ≡ reason.now) }
 {
-    match paths.sites.get(path.as_str()) {
-        Some(site) => is_made_dirty(states, site),
-        None => false,
+    match reason {
+        Reason::New => Ok(Reason::New),
+        Reason::Marked => Ok(Reason::Marked),
+        Reason::BadRecord => Ok(Reason::BadRecord),
+        Reason::Code => Ok(Reason::Code),
+        Reason::Params => Ok(Reason::Params),
+        Reason::Inputs => Ok(Reason::Inputs),
+        Reason::Updated(path) => Ok(Reason::Updated(path.copy(alloc)?)),
+        Reason::Upstream(path) => Ok(Reason::Upstream(path.copy(alloc)?)),
+        Reason::Forced => Ok(Reason::Forced),
     }
 }
 
-// Whether the job that makes the path is Dirty, and the path wasn't seen.
-fn is_fresh(states: &[State], paths: &Paths<'_>, seen: &BTreeSet<String>, path: &PathText) -> bool
-    ensures { result ≡ (is_dirty_told states.now (λ q. at_key paths.now.sites q) path.now && not (contains_text seen.now path.now)) }
+/// A copy of the reasons. `OutOfMemory` where there is no memory for it.
+pub fn reasons_again(alloc: Global, reasons: &[Reason]) -> Result<List<Reason>, OutOfMemory>
+    ensures { IfOk result (λ copy. copy ≡ reasons.now) }
 {
-    is_dirty(states, paths, path) && !seen.contains(path.as_str())
+    let mut copy = List::new(alloc);
+    for reason in reasons {
+        copy.push(reason_again(alloc, reason)?)?;
+    }
+    Ok(copy)
 }
 
-// Adds the input, where it is the first of its path.
+/// A copy of the state. `OutOfMemory` where there is no memory for it.
+pub fn state_again(alloc: Global, state: &State) -> Result<State, OutOfMemory>
+    ensures { IfOk result (λ copy. copy ≡ state.now) }
+{
+    match state {
+        State::Open => Ok(State::Open),
+        State::Dirty(reasons) => Ok(State::Dirty(reasons_again(alloc, reasons.as_slice())?)),
+        State::Restore => Ok(State::Restore),
+        State::Clean => Ok(State::Clean),
+    }
+}
+
+// Adds the input, where its job is Dirty and no earlier input has its path.
 fn push_upstream(
     alloc: Global,
     found: &mut List<Reason>,
-    seen: &mut BTreeSet<String>,
-    path: &PathText,
-    fresh: bool,
+    ranks: &[Rank],
+    origins: &[Origin],
+    input: &Input,
 ) -> Result<(), OutOfMemory>
-    ensures found { OnOk result (found.new ≡ found.old ++ when fresh (Reason.Upstream path.now)) }
-    ensures seen { OnOk result ((q : Path) → contains_text seen.new q ≡ (if fresh then (bytes_eq q path.now || contains_text seen.old q) else contains_text seen.old q)) }
+    ensures { OnOk result (found.new ≡ found.old ++ when (is_upstream ranks.now origins.now input.now) (Reason.Upstream input.now.path)) }
 {
-    if !fresh {
+    if !is_upstream(ranks, origins, input) {
         return Ok(());
     }
-    put(alloc, seen, path)?;
-    found.push(Reason::Upstream(path.copy(alloc)?))?;
+    found.push(Reason::Upstream(input.path.copy(alloc)?))?;
     Ok(())
 }
 
@@ -57,30 +82,29 @@ fn push_upstream(
 fn push_upstreams(
     alloc: Global,
     found: &mut List<Reason>,
-    states: &[State],
-    paths: &Paths<'_>,
-    inputs: &[PathText],
+    ranks: &[Rank],
+    origins: &[Origin],
+    inputs: &[Input],
 ) -> Result<(), OutOfMemory>
-    ensures { OnOk result (found.new ≡ found.old ++ map (λ q. Reason.Upstream q) (filter (is_dirty_told states.now (λ q. at_key paths.now.sites q)) (distinct bytes_eq inputs.now))) }
+    ensures { OnOk result (found.new ≡ found.old ++ map (λ q. Reason.Upstream q) (upstream_paths ranks.now origins.now inputs.now)) }
 {
-    let mut seen = BTreeSet::new(alloc);
-    for path in inputs {
-        let fresh = is_fresh(states, paths, &seen, path);
-        push_upstream(alloc, found, &mut seen, path, fresh)?;
+    for input in inputs {
+        push_upstream(alloc, found, ranks, origins, input)?;
     }
     Ok(())
 }
 
 // The reasons without Forced, which stands last where the job is forced.
-fn without_forced(own: List<Reason>, forced: bool) -> List<Reason>
-    ensures { (alone : Items ReasonValue) → own ≡ alone ++ when forced Reason.Forced → result ≡ alone }
+fn without_forced(own: &[Reason], forced: bool) -> &[Reason]
+    ensures { (alone : Items ReasonValue) → own.now ≡ alone ++ when forced Reason.Forced → result.now ≡ alone }
 {
     if !forced {
         return own;
     }
-    let mut own = own;
-    let _last = own.pop();
-    own
+    match own.split_last() {
+        Some((_, alone)) => alone,
+        None => own,
+    }
 }
 
 fn push_forced(found: &mut List<Reason>, forced: bool) -> Result<(), OutOfMemory>
@@ -93,20 +117,92 @@ fn push_forced(found: &mut List<Reason>, forced: bool) -> Result<(), OutOfMemory
     Ok(())
 }
 
-/// The reasons of a job: its own, then the inputs whose job is Dirty, then Forced.
-pub(crate) fn all_reasons(
+// The reasons of a job: its own, then the inputs whose job is Dirty, then Forced.
+fn all_reasons(
     alloc: Global,
-    states: &[State],
-    paths: &Paths<'_>,
-    inputs: &[PathText],
-    own: List<Reason>,
+    ranks: &[Rank],
+    origins: &[Origin],
+    inputs: &[Input],
+    own: &[Reason],
     forced: bool,
 ) -> Result<List<Reason>, OutOfMemory>
-    ensures { IfOk result (λ found. (alone : Items ReasonValue) → own ≡ alone ++ when forced Reason.Forced
-        → found ≡ alone ++ (map (λ q. Reason.Upstream q) (filter (is_dirty_told states.now (λ q. at_key paths.now.sites q)) (distinct bytes_eq inputs.now)) ++ when forced Reason.Forced)) }
+    ensures { IfOk result (λ found. (alone : Items ReasonValue) → own.now ≡ alone ++ when forced Reason.Forced
+        → found ≡ alone ++ (map (λ q. Reason.Upstream q) (upstream_paths ranks.now origins.now inputs.now) ++ when forced Reason.Forced)) }
 {
-    let mut found = without_forced(own, forced);
-    push_upstreams(alloc, &mut found, states, paths, inputs)?;
+    let mut found = reasons_again(alloc, without_forced(own, forced))?;
+    push_upstreams(alloc, &mut found, ranks, origins, inputs)?;
     push_forced(&mut found, forced)?;
+    Ok(found)
+}
+
+// The state of this rank.
+fn plain_state(
+    alloc: Global,
+    rank: Rank,
+    ranks: &[Rank],
+    origins: &[Origin],
+    inputs: &[Input],
+    own: &[Reason],
+    forced: bool,
+) -> Result<State, OutOfMemory>
+    ensures { IfOk result (λ state. (alone : Items ReasonValue) → own.now ≡ alone ++ when forced Reason.Forced
+        → state ≡ plain_state rank (alone ++ (map (λ q. Reason.Upstream q) (upstream_paths ranks.now origins.now inputs.now) ++ when forced Reason.Forced))) }
+{
+    match rank {
+        Rank::Open => Ok(State::Open),
+        Rank::Dirty => Ok(State::Dirty(all_reasons(alloc, ranks, origins, inputs, own, forced)?)),
+        Rank::Restore => Ok(State::Restore),
+        Rank::Clean => Ok(State::Clean),
+    }
+}
+
+// The state of a job that has this rank among these, and had that state when its child began, if it runs.
+fn state_by(
+    alloc: Global,
+    begun: Option<&State>,
+    rank: Rank,
+    ranks: &[Rank],
+    origins: &[Origin],
+    inputs: &[Input],
+    own: &[Reason],
+    forced: bool,
+) -> Result<State, OutOfMemory>
+    ensures { IfOk result (λ state. (alone : Items ReasonValue) → own.now ≡ alone ++ when forced Reason.Forced
+        → state ≡ state_by (option_map (λ state. state.now) begun.entry) rank
+        (alone ++ (map (λ q. Reason.Upstream q) (upstream_paths ranks.now origins.now inputs.now) ++ when forced Reason.Forced))) }
+{
+    match begun {
+        Some(State::Dirty(reasons)) => Ok(State::Dirty(reasons_again(alloc, reasons.as_slice())?)),
+        _ => plain_state(alloc, rank, ranks, origins, inputs, own, forced),
+    }
+}
+
+/// The state of each job, by its rank.
+pub(crate) fn states_of(
+    alloc: Global,
+    lines: &[Line],
+    origins: &[Origin],
+    rows: &Rows<'_>,
+    ranks: &[Rank],
+) -> Result<List<State>, OutOfMemory>
+    requires each { length ranks.now ≡ length lines.now }
+    ensures each { IfOk result (λ states. length states ≡ length lines.now) }
+    ensures states { IfOk result (λ found. (at : Judging) (jobs : JobsValue) (states : Items StateValue) (used : Items Bool)
+        → IsMoment at jobs states lines.now origins.now rows.now used → ranks.now ≡ map rank_of states → found ≡ states) }
+{
+    let mut found = List::new(alloc);
+    for (number, line) in lines.iter().enumerate() {
+        let state = state_by(
+            alloc,
+            began_at(rows.running, number),
+            ranks[number],
+            ranks,
+            origins,
+            line.inputs.as_slice(),
+            row_at(rows.reasons, number),
+            flag_at(rows.forced, number),
+        )?;
+        found.push(state)?;
+    }
     Ok(found)
 }

@@ -1,101 +1,117 @@
-//! The table of states: what is told of jobs, their targets and what is whole, and the states of the jobs by it.
+//! The table of states: how the paths of jobs and targets hang together, by numbers, and the states of the jobs by it.
 
-ghost use Rattle.std.specs.Prelude.{◌≡◌, List as Items, length, IfOk};
+ghost use Rattle.std.specs.Prelude.{◌≡◌, List as Items, length, map, [], IfOk};
 ghost use Rattle.smk_world.specs.Trees.{Path};
 ghost use Rattle.smk_chain.specs.declared.jobs.Jobs.{Jobs as JobsValue};
+ghost use Rattle.smk_plan.specs.States.{is_read_now};
 ghost use Rattle.smk_trigger.specs.declared.reason.State.{State as StateValue};
-ghost use Rattle.smk_plan_states.specs.Judged.{Judging, AreJudged, AreStates, any_held_back, began, new_directories, targets_ready};
-ghost use Rattle.smk_plan_states.specs.Tables.{IsTable, IsTableAt, IsTableOf};
+ghost use Rattle.smk_plan_states.specs.Judged.{Judging, AreStates, any_held_back, began, new_directories, targets_ready, with_states};
+ghost use Rattle.smk_plan_states.specs.Moment.{IsMoment};
+ghost use Rattle.smk_plan_states.specs.Rows.{AreRowsAt};
+ghost use Rattle.smk_plan_states.specs.Tables.{IsTableAt, IsTableOf};
 
-use crate::downward::last_states;
-use crate::holding::any_held;
-use crate::in_use::in_use_of;
-use crate::judged::Judged;
-use crate::parts::{Parts, parts_of_jobs};
-use crate::paths::Paths;
-use crate::ready::{new_in, ready_in, waits_in};
-use crate::upward::first_states;
+use crate::awaits::{each_once, spot_paths, spots_in};
+use crate::downward::last_ranks;
+use crate::holding::{is_any_held, needed_in};
+use crate::in_use::used_in;
+use crate::lines::{Awaited, Line, Origin, Target};
+use crate::making::{Wants, lines_of, origins_of, targets_of};
+use crate::ready::{new_in, ready_in};
+use crate::reasons::states_of;
+use crate::rows::Rows;
+use crate::upward::first_ranks;
+use crate::ways::{Ways, read_in, sources_in};
 use smk_base::{List, OutOfMemory, PathText};
 use smk_chain::Jobs;
-use smk_plan::Wholes;
+use smk_chain::sets::set_of;
 use smk_trigger::State;
 use std::alloc::Global;
 
-/// What is told of the jobs of a plan, their targets and what is whole: made once, it answers each question of the states without going over
-/// the recipes again.
+/// How the paths of jobs and targets hang together, by numbers: made once for some jobs and targets, it answers each question of the states by what is lent of the
+/// moment, without a look-up by path.
 #[derive(Drop)]
-pub struct Table<'j> {
-    parts: List<Parts>,
-    paths: Paths<'j>,
-    targets: &'j [PathText],
+pub struct Table {
+    lines: List<Line>,
+    origins: List<Origin>,
+    targets: List<Target>,
+    awaited: List<Awaited>,
 }
 
-// The states are those of the table, if there are any.
-fn solve(alloc: Global, table: &Table<'_>, judged: Judged) -> Result<List<State>, OutOfMemory>
-    ensures each { IfOk result (λ found. length found ≡ length table.now.parts) }
+// The states of the jobs, of which these flags tell whether a child reads what they made.
+fn solve(
+    alloc: Global,
+    lines: &[Line],
+    origins: &[Origin],
+    rows: &Rows<'_>,
+    used: &[bool],
+) -> Result<List<State>, OutOfMemory>
+    ensures each { IfOk result (λ states. length states ≡ length lines.now) }
     ensures states { IfOk result (λ found. (at : Judging) (jobs : JobsValue) (states : Items StateValue)
-        → IsTableAt at jobs table.now → AreJudged at jobs judged → AreStates at jobs states → found ≡ states) }
+        → IsMoment at jobs states lines.now origins.now rows.now used.now → found ≡ states) }
 {
-    let Judged {
-        reasons,
-        forced,
-        running,
-    } = judged;
-    let in_use = in_use_of(
-        alloc,
-        &table.paths,
-        table.parts.as_slice(),
-        running.as_slice(),
-    )?;
-    let first = first_states(
-        alloc,
-        &table.paths,
-        &in_use,
-        table.parts.as_slice(),
-        reasons,
-        forced.as_slice(),
-        running,
-    )?;
-    last_states(alloc, &in_use, table.parts.as_slice(), first)
+    let first = first_ranks(alloc, lines, origins, rows, used)?;
+    let ranks = last_ranks(alloc, lines, origins, rows, used, first)?;
+    let states = states_of(alloc, lines, origins, rows, ranks.as_slice())?;
+    Ok(states)
 }
 
-impl<'j> Table<'j> {
-    /// The table of these jobs and targets, of which this is whole. `OutOfMemory` where there is no memory for it.
+impl Table {
+    /// The table of these jobs and targets. `OutOfMemory` where there is no memory for it.
     ///
-    /// The time is near linear in the jobs with their inputs and outputs, and the makers.
-    pub fn of(
-        alloc: Global,
-        jobs: &'j Jobs,
-        targets: &'j List<PathText>,
-        wholes: &Wholes,
-    ) -> Result<Table<'j>, OutOfMemory>
-        ensures { IfOk result (λ table. IsTableOf jobs.now targets.now wholes.now table) }
+    /// The time is near linear in the jobs with their inputs and outputs, the makers and the targets.
+    pub fn of(alloc: Global, jobs: &Jobs, targets: &List<PathText>) -> Result<Table, OutOfMemory>
+        ensures { IfOk result (λ table. IsTableOf jobs.now targets.now table) }
     {
-        let parts = parts_of_jobs(alloc, jobs.jobs.as_slice(), wholes.outputs.as_slice())?;
-        let paths = Paths::of(
-            alloc,
-            jobs,
-            targets.as_slice(),
-            parts.as_slice(),
-            wholes.makers.as_slice(),
-        )?;
+        let ways = Ways::of(alloc, jobs)?;
+        let spots = spots_in(alloc, &ways, jobs.jobs.as_slice(), targets.as_slice())?;
+        let wants = Wants {
+            targets: set_of(alloc, targets.as_slice())?,
+            awaited: spot_paths(alloc, spots.as_slice())?,
+            read: read_in(alloc, jobs.jobs.as_slice())?,
+        };
+        let sources = sources_in(alloc, jobs.makers.as_slice())?;
         Ok(Table {
-            parts,
-            paths,
-            targets: targets.as_slice(),
+            lines: lines_of(alloc, &ways, &wants, jobs.jobs.as_slice())?,
+            origins: origins_of(alloc, &ways, jobs.makers.as_slice())?,
+            targets: targets_of(alloc, &ways, &sources, targets.as_slice())?,
+            awaited: each_once(alloc, spots.as_slice())?,
         })
+    }
+
+    /// A line for each job. It takes no memory.
+    pub fn lines(&self) -> &[Line]
+        ensures { result.now ≡ self.now.lines }
+    {
+        self.lines.as_slice()
+    }
+
+    /// What makes the path of each maker. It takes no memory.
+    pub fn origins(&self) -> &[Origin]
+        ensures { result.now ≡ self.now.origins }
+    {
+        self.origins.as_slice()
+    }
+
+    /// The targets. It takes no memory.
+    pub fn targets(&self) -> &[Target]
+        ensures { result.now ≡ self.now.targets }
+    {
+        self.targets.as_slice()
     }
 
     /// The state of each job, by the table of states. `OutOfMemory` where there is no memory for them.
     ///
     /// A job that began Dirty stays so while its child runs, and one that began as a Restore isn't Clean. A Restore counts as Clean while a child
-    /// reads what it made. The time is near linear in the jobs with their inputs and outputs, and the makers.
-    pub fn states(&self, alloc: Global, judged: Judged) -> Result<List<State>, OutOfMemory>
-        ensures each { IfOk result (λ states. (jobs : JobsValue) (targets : Items Path) → IsTable jobs targets self.now → length states ≡ length jobs.jobs) }
-        ensures table { IfOk result (λ states. (at : Judging) (jobs : JobsValue) → IsTableAt at jobs self.now → AreJudged at jobs judged → AreStates at jobs states) }
+    /// reads what it made. The time is linear in the jobs with their inputs and outputs, and the reasons of those that are Dirty.
+    pub fn states(&self, alloc: Global, rows: &Rows<'_>) -> Result<List<State>, OutOfMemory>
+        ensures each { IfOk result (λ states. (jobs : JobsValue) (targets : Items Path) → IsTableOf jobs targets self.now → length states ≡ length jobs.jobs) }
+        ensures table { IfOk result (λ states. (at : Judging) (jobs : JobsValue) → IsTableAt at jobs self.now → AreRowsAt at jobs rows.now → AreStates at jobs states) }
     {
-        let found = solve(alloc, self, judged)?;
-        Ok(found)
+        let lines = self.lines.as_slice();
+        let origins = self.origins.as_slice();
+        let used = used_in(alloc, lines, origins, rows.running)?;
+        let states = solve(alloc, lines, origins, rows, used.as_slice())?;
+        Ok(states)
     }
 
     /// For each target whether it is ready by these states: a job makes it that is Clean, and it is whole. `OutOfMemory` where there is no
@@ -103,12 +119,19 @@ impl<'j> Table<'j> {
     pub fn ready_targets(
         &self,
         alloc: Global,
-        states: &List<State>,
+        rows: &Rows<'_>,
+        states: &[State],
     ) -> Result<List<bool>, OutOfMemory>
-        ensures { IfOk result (λ ready. (at : Judging) (jobs : JobsValue) → IsTableAt at jobs self.now → length states.now ≡ length jobs.jobs
+        ensures { IfOk result (λ ready. (at : Judging) (jobs : JobsValue) → IsTableAt at jobs self.now → AreRowsAt at jobs rows.now → length states.now ≡ length jobs.jobs
             → ready ≡ targets_ready at jobs states.now) }
     {
-        let ready = ready_in(alloc, &self.paths.sites, states.as_slice(), self.targets)?;
+        let ready = ready_in(
+            alloc,
+            self.origins.as_slice(),
+            rows,
+            states,
+            self.targets.as_slice(),
+        )?;
         Ok(ready)
     }
 
@@ -117,42 +140,59 @@ impl<'j> Table<'j> {
     pub fn newly_ready(
         &self,
         alloc: Global,
-        states: &List<State>,
+        rows: &Rows<'_>,
+        states: &[State],
     ) -> Result<List<PathText>, OutOfMemory>
-        ensures { IfOk result (λ found. (at : Judging) (jobs : JobsValue) → IsTableAt at jobs self.now → length states.now ≡ length jobs.jobs
+        ensures { IfOk result (λ found. (at : Judging) (jobs : JobsValue) → IsTableAt at jobs self.now → AreRowsAt at jobs rows.now → length states.now ≡ length jobs.jobs
             → found ≡ new_directories at jobs states.now) }
     {
-        let waits = waits_in(
+        let found = new_in(
             alloc,
-            &self.paths.sites,
-            states.as_slice(),
-            self.parts.as_slice(),
-            self.targets,
+            self.origins.as_slice(),
+            rows,
+            states,
+            self.awaited.as_slice(),
         )?;
-        let found = new_in(alloc, waits.as_slice(), &self.paths.listed)?;
         Ok(found)
     }
 
+    /// For each job whether the child of another one reads what it made. `running` has for each job the state that it had when it began, if its child runs.
+    /// `OutOfMemory` where there is no memory for the answer.
+    pub fn in_use(&self, alloc: Global, running: &[Option<State>]) -> Result<Vec<bool>, OutOfMemory>
+        ensures { IfOk result (λ used. (at : Judging) (jobs : JobsValue) → IsTableAt at jobs self.now → running.now ≡ began at jobs
+            → used.items ≡ map (is_read_now at.image at.settings at.progress (with_states jobs [])) jobs.jobs) }
+    {
+        let used = used_in(
+            alloc,
+            self.lines.as_slice(),
+            self.origins.as_slice(),
+            running,
+        )?;
+        Ok(used)
+    }
+
     /// Whether some job is to be restored but counts as Clean, since a child reads what it made: the child of another job, and its own
-    /// doesn't run. `OutOfMemory` where there is no memory to tell.
-    ///
-    /// `running` has for each job the state that it had when it began, if its child runs; `states` are those of the table.
+    /// doesn't run. `states` are those of the table. `OutOfMemory` where there is no memory to tell.
     pub fn holds_back(
         &self,
         alloc: Global,
-        running: &List<Option<State>>,
-        states: &List<State>,
+        rows: &Rows<'_>,
+        states: &[State],
     ) -> Result<bool, OutOfMemory>
-        ensures { IfOk result (λ held. (at : Judging) (jobs : JobsValue) → IsTableAt at jobs self.now → running.now ≡ began at jobs
+        ensures { IfOk result (λ held. (at : Judging) (jobs : JobsValue) → IsTableAt at jobs self.now → AreRowsAt at jobs rows.now
             → AreStates at jobs states.now → held ≡ any_held_back at jobs states.now) }
     {
-        let held = any_held(
-            alloc,
-            &self.paths,
-            self.parts.as_slice(),
-            states.as_slice(),
-            running.as_slice(),
-        )?;
-        Ok(held)
+        let lines = self.lines.as_slice();
+        let origins = self.origins.as_slice();
+        let used = used_in(alloc, lines, origins, rows.running)?;
+        let needed = needed_in(alloc, origins.len(), lines, states)?;
+        Ok(is_any_held(
+            needed.as_slice(),
+            lines,
+            states,
+            rows.running,
+            used.as_slice(),
+            rows.outputs,
+        ))
     }
 }

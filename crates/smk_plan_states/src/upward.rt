@@ -1,188 +1,130 @@
 //! The first pass, from the first job to the last: what a job is by the jobs before it.
 
-ghost use Rattle.std.specs.Prelude.{◌≡◌, ◌&&◌, ◌||◌, ◌++◌, ◌∷◌, [], not, List as Items, length, map, reverse, Option, IfOk};
-ghost use Rattle.smk_plan_states.specs.Keys.{at_key, has_key};
-ghost use Rattle.std.specs.BTreeSet.{contains_text};
+ghost use Rattle.std.specs.Prelude.{◌≡◌, List as Items, length, map, slice_index_or, false, [], IfOk};
 ghost use Rattle.std.specs.List.{list_any};
-ghost use Rattle.smk_world.specs.Trees.{Path};
 ghost use Rattle.smk_chain.specs.declared.jobs.Jobs.{Jobs as JobsValue};
-ghost use Rattle.smk_trigger.specs.declared.reason.Reason.{Reason as ReasonValue};
 ghost use Rattle.smk_trigger.specs.declared.reason.State.{State as StateValue};
-ghost use Rattle.smk_trigger.specs.Reasons.{when};
-ghost use Rattle.smk_plan.specs.States.{by_reasons, unless_clean, while_running};
-ghost use Rattle.smk_plan_states.specs.Judged.{Judging, AreJudged};
-ghost use Rattle.smk_plan_states.specs.Passes.{is_kept_told};
-ghost use Rattle.smk_plan_states.specs.InUse.{is_in_use_told};
-ghost use Rattle.smk_plan_states.specs.First.{first_states, first_told, IsSolved};
+ghost use Rattle.smk_plan_states.specs.Judged.{Judging};
+ghost use Rattle.smk_plan_states.specs.First.{first_states};
+ghost use Rattle.smk_plan_states.specs.Moment.{IsMoment};
+ghost use Rattle.smk_plan_states.specs.Ranks.{rank_of};
+ghost use Rattle.smk_plan_states.specs.Ranking.{has_any, is_upstream, dirties_by, is_kept_by, table_rank, first_rank};
 
-use crate::in_use::is_in_use;
+use crate::lines::{Input, Line, Origin, Output};
 use crate::opening::is_open;
-use crate::parts::Parts;
-use crate::paths::Paths;
-use crate::reasons::all_reasons;
-use crate::sites::flag_at;
-use smk_base::{List, OutOfMemory, PathText};
-use smk_chain::sets::set_of;
-use smk_trigger::{Reason, State};
+use crate::ranks::{Rank, by_rank, is_dirty, rank_at, while_running};
+use crate::rows::Rows;
+use crate::spots::{began_at, flag_at, maker_at, row_at};
+use smk_base::OutOfMemory;
+use smk_trigger::Reason;
 use std::alloc::Global;
-use std::collections::BTreeSet;
 
-/// The elements from the last to the first.
-pub(crate) fn reversed<T: Drop>(alloc: Global, list: List<T>) -> Result<List<T>, OutOfMemory>
-    ensures { IfOk result (λ found. found ≡ reverse list) }
+/// Whether the job of the input is Dirty, and no earlier input has its path.
+pub(crate) fn is_upstream(ranks: &[Rank], origins: &[Origin], input: &Input) -> bool
+    ensures { result ≡ is_upstream ranks.now origins.now input.now }
 {
-    let mut left = list;
-    let mut found = List::new(alloc);
-    'items: while let Some(item) = left.pop() {
-        found.push(item)?;
-    }
-    Ok(found)
+    !input.again && is_dirty(rank_at(ranks, maker_at(origins, input.link)))
 }
 
-// Whether an output that isn't whole is wanted back, whatever jobs are to run.
-fn is_kept_output(paths: &Paths<'_>, temps: &BTreeSet<String>, feeds: bool, path: &PathText) -> bool
-    ensures { result ≡ (contains_text paths.now.targets path.now || (contains_text paths.now.awaited path.now
-        || (not (contains_text temps.now path.now && not feeds) && has_key paths.now.read path.now))) }
+fn any_upstream(ranks: &[Rank], origins: &[Origin], inputs: &[Input]) -> bool
+    ensures { result ≡ list_any (is_upstream ranks.now origins.now) inputs.now }
 {
-    let text = path.as_str();
-    paths.targets.contains(text)
-        || paths.awaited.contains(text)
-        || (!(temps.contains(text) && !feeds) && paths.read.contains_key(text))
-}
-
-// Whether one of the outputs is an awaited directory.
-fn makes_awaited(paths: &Paths<'_>, outputs: &[PathText]) -> bool
-    ensures { result ≡ list_any (λ p. contains_text paths.now.awaited p) outputs.now }
-{
-    for path in outputs {
-        if paths.awaited.contains(path.as_str()) {
+    for input in inputs {
+        if is_upstream(ranks, origins, input) {
             return true;
         }
     }
     false
 }
 
-fn any_kept(paths: &Paths<'_>, temps: &BTreeSet<String>, feeds: bool, gone: &[PathText]) -> bool
-    ensures { result ≡ list_any (λ p. contains_text paths.now.targets p || (contains_text paths.now.awaited p
-        || (not (contains_text temps.now p && not feeds) && has_key paths.now.read p))) gone.now }
+fn has_any(own: &[Reason]) -> bool
+    ensures { result ≡ has_any own.now }
 {
-    for path in gone {
-        if is_kept_output(paths, temps, feeds, path) {
-            return true;
-        }
+    match own {
+        [] => false,
+        [_, ..] => true,
     }
-    false
+}
+
+// Whether there are reasons for a job that isn't Open.
+fn dirties(ranks: &[Rank], origins: &[Origin], own: &[Reason], line: &Line) -> bool
+    ensures { result ≡ dirties_by ranks.now origins.now own.now line.now }
+{
+    has_any(own) || any_upstream(ranks, origins, line.inputs.as_slice())
 }
 
 /// Whether some output isn't whole and is wanted back, whatever jobs are to run.
-pub(crate) fn is_kept(alloc: Global, paths: &Paths<'_>, part: &Parts) -> Result<bool, OutOfMemory>
-    ensures { IfOk result (λ kept. kept ≡ is_kept_told (λ q. contains_text paths.now.targets q) (λ q. contains_text paths.now.awaited q) (λ q. has_key paths.now.read q) part.now) }
+pub(crate) fn is_kept(outputs: &[Output], flags: &[bool]) -> bool
+    ensures { result ≡ is_kept_by outputs.now flags.now }
 {
-    let temps = set_of(alloc, part.temps.as_slice())?;
-    let feeds = makes_awaited(paths, part.outputs.as_slice());
-    Ok(any_kept(paths, &temps, feeds, part.gone.as_slice()))
-}
-
-// The state of a job that isn't Open.
-fn by_reasons(found: List<Reason>, kept: bool) -> State
-    ensures { result ≡ by_reasons found kept }
-{
-    if !found.is_empty() {
-        return State::Dirty(found);
+    for (i, output) in outputs.iter().enumerate() {
+        let Some(whole) = flags.get(i) else {
+            return false;
+        };
+        if output.wanted && !*whole {
+            return true;
+        }
     }
-    if kept { State::Restore } else { State::Clean }
+    false
 }
 
-// The state of a job by the states of the jobs before it, where its child doesn't run.
-fn first_state(
+// The rank of a job by the ranks of the jobs before it, where its child doesn't run.
+fn table_rank(
+    ranks: &[Rank],
+    origins: &[Origin],
+    rows: &Rows<'_>,
+    line: &Line,
+    number: usize,
+    used: bool,
+) -> Rank
+    ensures { result ≡ table_rank ranks.now origins.now rows.now line.now number used }
+{
+    if is_open(ranks, origins, rows, line) {
+        return Rank::Open;
+    }
+    let dirty = dirties(ranks, origins, row_at(rows.reasons, number), line);
+    let kept = is_kept(line.outputs.as_slice(), row_at(rows.outputs, number)) && !used;
+    by_rank(dirty, kept)
+}
+
+fn first_rank(
+    ranks: &[Rank],
+    origins: &[Origin],
+    rows: &Rows<'_>,
+    line: &Line,
+    number: usize,
+    used: bool,
+) -> Rank
+    ensures { result ≡ first_rank ranks.now origins.now rows.now line.now number used }
+{
+    let by_table = table_rank(ranks, origins, rows, line, number, used);
+    while_running(began_at(rows.running, number), by_table)
+}
+
+/// For each job its rank, but Clean where only jobs that are to run want something back. `used` has for each job whether a child reads what
+/// it made.
+pub(crate) fn first_ranks(
     alloc: Global,
-    states: &[State],
-    paths: &Paths<'_>,
-    in_use: &BTreeSet<String>,
-    part: &Parts,
-    own: List<Reason>,
-    forced: bool,
-) -> Result<State, OutOfMemory>
-    ensures { IfOk result (λ state. (alone : Items ReasonValue) → own ≡ alone ++ when forced Reason.Forced
-        → state ≡ first_told states.now (λ q. at_key paths.now.sites q) (λ q. contains_text paths.now.listed q)
-        (is_kept_told (λ q. contains_text paths.now.targets q) (λ q. contains_text paths.now.awaited q) (λ q. has_key paths.now.read q) part.now
-        && not (is_in_use_told (λ p. contains_text in_use.now p) part.now))
-        part.now alone forced) }
+    lines: &[Line],
+    origins: &[Origin],
+    rows: &Rows<'_>,
+    used: &[bool],
+) -> Result<Vec<Rank>, OutOfMemory>
+    ensures each { IfOk result (λ ranks. length ranks.items ≡ length lines.now) }
+    ensures ranks { IfOk result (λ ranks. (at : Judging) (jobs : JobsValue) (states : Items StateValue)
+        → IsMoment at jobs states lines.now origins.now rows.now used.now → ranks.items ≡ map rank_of (first_states at jobs states)) }
 {
-    if is_open(states, paths, part) {
-        return Ok(State::Open);
+    let mut ranks = Vec::new(alloc);
+    for (number, line) in lines.iter().enumerate() {
+        let rank = first_rank(
+            ranks.as_slice(),
+            origins,
+            rows,
+            line,
+            number,
+            flag_at(used, number),
+        );
+        ranks.push(rank)?;
     }
-    let found = all_reasons(alloc, states, paths, part.inputs.as_slice(), own, forced)?;
-    let kept = is_kept(alloc, paths, part)? && !is_in_use(in_use, part);
-    Ok(by_reasons(found, kept))
-}
-
-// A Restore in the place of Clean.
-fn unless_clean(state: State) -> State
-    ensures { result ≡ unless_clean state }
-{
-    match state {
-        State::Clean => State::Restore,
-        other => other,
-    }
-}
-
-// The state of a job, which had this one when its child began, if it runs.
-fn while_running(kept: Option<State>, state: State) -> State
-    ensures { result ≡ while_running kept state }
-{
-    match kept {
-        None => state,
-        Some(State::Dirty(reasons)) => State::Dirty(reasons),
-        Some(_) => unless_clean(state),
-    }
-}
-
-// The next reasons; none where there are no more.
-fn next_of(alloc: Global, left: &mut List<List<Reason>>) -> List<Reason>
-    ensures { (next : Items ReasonValue) (rest : Items (Items ReasonValue)) → left.old ≡ reverse (next ∷ rest) → (result ≡ next) × (left.new ≡ reverse rest) }
-{
-    match left.pop() {
-        Some(own) => own,
-        None => List::new(alloc),
-    }
-}
-
-// The next of the states that jobs had when they began; none where there are no more.
-fn next_kept(left: &mut List<Option<State>>) -> Option<State>
-    ensures { (next : Option StateValue) (rest : Items (Option StateValue)) → left.old ≡ reverse (next ∷ rest) → (result ≡ next) × (left.new ≡ reverse rest) }
-{
-    match left.pop() {
-        Some(kept) => kept,
-        None => None,
-    }
-}
-
-/// For each job its state, but Clean where only jobs that are to run want something back. `running` has for each job whose child runs the
-/// state that it had when it began.
-pub(crate) fn first_states(
-    alloc: Global,
-    paths: &Paths<'_>,
-    in_use: &BTreeSet<String>,
-    parts: &[Parts],
-    reasons: List<List<Reason>>,
-    forced: &[bool],
-    running: List<Option<State>>,
-) -> Result<List<State>, OutOfMemory>
-    ensures each { IfOk result (λ found. length found ≡ length parts.now) }
-    ensures states { IfOk result (λ found. (at : Judging) (jobs : JobsValue) (states : Items StateValue)
-        → IsSolved at jobs states paths.now parts.now (λ p. contains_text in_use.now p)
-        → AreJudged at jobs (record { reasons = reasons; forced = forced.now; running = running }) → found ≡ first_states at jobs states) }
-{
-    let mut left = reversed(alloc, reasons)?;
-    let mut left_kept = reversed(alloc, running)?;
-    let mut states = List::new(alloc);
-    for (number, part) in parts.iter().enumerate() {
-        let own = next_of(alloc, &mut left);
-        let told = flag_at(forced, number);
-        let by_table = first_state(alloc, states.as_slice(), paths, in_use, part, own, told)?;
-        let state = while_running(next_kept(&mut left_kept), by_table);
-        states.push(state)?;
-    }
-    Ok(states)
+    Ok(ranks)
 }

@@ -22,47 +22,59 @@ use Rattle.smk_pick.specs.declared.settings.Settings.{Settings}
 use Rattle.smk_plan.specs.declared.fault.PlanFault.{PlanFault}
 use Rattle.smk_plan.specs.declared.plan.Plan.{Plan as Told}
 use Rattle.smk_plan.specs.declared.seen.Sight.{Sight}
-use Rattle.smk_plan.specs.States.{Plan, Progress, HasStates, is_forced, is_ready, is_current, awaited, files_listed, new_listings}
+use Rattle.smk_plan.specs.States.{Plan, Progress, HasStates, kept_state, is_forced, is_ready, is_current, awaited, files_listed, new_listings}
 use Rattle.smk_drive.specs.Moments.{Rules}
 use Rattle.smk_plan_facts.specs.Facts.{having_run, facts_of, told_sources, AreFactsOf}
 use Rattle.smk_plan_states.specs.Judged.{with_states, reasons_now, AreJudged}
-use Rattle.smk_plan_table.specs.Parts.{is_source_in, each_or, listing_in, refusals_in}
-use Rattle.smk_plan_table.specs.Plans.{Agree, idle_at, at_rest, HasMadeAt, IsUnrefused, IsRefusedAt}
-use Rattle.smk_plan_table.proofs.Refused.{refused_first, unrefused_all}
-use Rattle.smk_plan_table.proofs.Idle.{now_alone}
-use Rattle.smk_plan_table.proofs.Told.{source_same, each_or_same, files_same, zip_same}
+use Rattle.smk_plan_states.specs.declared.lines.Target.{Target}
+use Rattle.smk_plan_states.specs.Lines.{target_of}
+use Rattle.smk_plan_table.specs.Parts.{before_in, current_in, idle_in, listing_in, refusals_in}
+use Rattle.smk_plan_table.specs.Plans.{Agree, begun_at, idle_at, at_rest, HasMadeAt, IsUnrefused, IsRefusedAt}
+use Rattle.smk_plan_table.proofs.Refused.{front_of, refused_first, unrefused_all}
+use Rattle.smk_plan_table.proofs.Idle.{idle_same, now_alone}
+use Rattle.smk_plan_table.proofs.Told.{current_all, files_same, is_source_told, source_same, zip_same}
 
 module _ (image : Image) (settings : Settings) (progress : Progress) (jobs : Jobs) (store : List Known) (seen : List Sight) (agree : Agree image jobs store seen settings.targets) where
   -- ## Refusals
 
-  abbrev pub first_of : List Path → List Job → List State → Option PlanFault
-  first_of ran idle states = first (refusals_in store seen settings ran idle jobs.jobs states)
+  abbrev pub first_of : List Job → List Job → Option PlanFault
+  first_of idle front = first (refusals_in store seen settings idle front)
 
-  pub refusal : (ran : List Path) → progress.begun ≡ ran → (idle : List Job) → idle ≡ idle_at progress jobs.jobs →
-      (states : List State) → HasStates image settings progress (with_states jobs states) →
-      (f : PlanFault) → Some f ≡ first_of ran idle states → IsRefusedAt (record { image = image; settings = settings; progress = progress }) jobs f
-  refusal ran b idle i states table f e =
+  -- the idle jobs and those that are ahead are told by flags
+  first_same : (running : List (Option State)) → running ≡ map (kept_state image settings progress (with_states jobs [])) jobs.jobs →
+      (flags : List Bool) → flags ≡ begun_at progress jobs.jobs → (states : List State) →
+      first_of (idle_in jobs.jobs running) (before_in jobs.jobs states flags) ≡ first_of (idle_at progress jobs.jobs) (front_of progress (with_states jobs states))
+  first_same running r flags b states =
+      ap (λ (idle : List Job). first_of idle (before_in jobs.jobs states flags)) (ap (idle_in jobs.jobs) r ∙ idle_same image settings progress jobs jobs.jobs)
+      ∙ ap (λ (bs : List Bool). first_of (idle_at progress jobs.jobs) (before_in jobs.jobs states bs)) b
+
+  pub refusal : (running : List (Option State)) → running ≡ map (kept_state image settings progress (with_states jobs [])) jobs.jobs →
+      (flags : List Bool) → flags ≡ begun_at progress jobs.jobs → (states : List State) → HasStates image settings progress (with_states jobs states) →
+      (f : PlanFault) → Some f ≡ first_of (idle_in jobs.jobs running) (before_in jobs.jobs states flags) →
+      IsRefusedAt (record { image = image; settings = settings; progress = progress }) jobs f
+  refusal running r flags b states table f e =
       record {
         states = states;
         table = table;
         first = λ rules same.
             refused_first rules image progress (with_states jobs states) store seen agree.stored agree.sighted.outputs f
-            (subst (λ s. Some f ≡ first (refusals_in store seen s progress.begun (idle_at progress jobs.jobs) jobs.jobs states)) (sym same)
-            (e ∙ ap (λ r. first_of r idle states) (sym b) ∙ ap (λ js. first_of progress.begun js states) i));
+            (subst (λ s. Some f ≡ first (refusals_in store seen s (idle_at progress jobs.jobs) (front_of progress (with_states jobs states)))) (sym same)
+            (e ∙ first_same running r flags b states));
       }
 
-  pub nothing_refused : (states : List State) → None ≡ first_of progress.begun (idle_at progress jobs.jobs) states →
+  nothing_refused : (states : List State) → None ≡ first_of (idle_at progress jobs.jobs) (front_of progress (with_states jobs states)) →
       (rules : Rules) → rules.settings ≡ settings → IsUnrefused rules image progress (with_states jobs states)
   nothing_refused states e rules same =
       unrefused_all rules image progress (with_states jobs states) store seen agree.stored agree.sighted.outputs
-      (subst (λ s. None ≡ first (refusals_in store seen s progress.begun (idle_at progress jobs.jobs) jobs.jobs states)) (sym same) e)
+      (subst (λ s. None ≡ first (refusals_in store seen s (idle_at progress jobs.jobs) (front_of progress (with_states jobs states)))) (sym same) e)
 
-  pub made_of : (ran : List Path) → progress.begun ≡ ran → (idle : List Job) → idle ≡ idle_at progress jobs.jobs →
-      (states : List State) → HasStates image settings progress (with_states jobs states) → None ≡ first_of ran idle states →
+  pub made_of : (running : List (Option State)) → running ≡ map (kept_state image settings progress (with_states jobs [])) jobs.jobs →
+      (flags : List Bool) → flags ≡ begun_at progress jobs.jobs → (states : List State) → HasStates image settings progress (with_states jobs states) →
+      None ≡ first_of (idle_in jobs.jobs running) (before_in jobs.jobs states flags) →
       (told : Told) → told.states ≡ states → told.current ≡ map (is_current image settings progress (with_states jobs states)) settings.targets →
       told.known ≡ new_listings image settings progress (with_states jobs states) → HasMadeAt (record { image = image; settings = settings; progress = progress }) jobs told
-  made_of ran b idle i states table none told e c k =
-      let free = nothing_refused states (none ∙ ap (λ r. first_of r idle states) (sym b) ∙ ap (λ js. first_of progress.begun js states) i) in
+  made_of running r flags b states table none told e c k =
+      let free = nothing_refused states (none ∙ first_same running r flags b states) in
       record {
         states = subst (λ s. HasStates image settings progress (with_states jobs s)) (sym e) table;
         current = c ∙ ap (λ s. map (is_current image settings progress (with_states jobs s)) settings.targets) (sym e);
@@ -94,13 +106,15 @@ module _ (image : Image) (settings : Settings) (ran : List Path) (jobs : Jobs) w
 -- ## What is told
 
 module _ (image : Image) (settings : Settings) (progress : Progress) (jobs : Jobs) (store : List Known) (seen : List Sight) (agree : Agree image jobs store seen settings.targets) (plan : Plan) where
-  pub current_same : (ready current : List Bool) → ready ≡ map (is_ready image settings progress plan) settings.targets →
-      current ≡ each_or (is_source_in jobs.makers store seen) settings.targets ready → current ≡ map (is_current image settings progress plan) settings.targets
-  current_same ready current r c =
-      c ∙ ap (each_or (is_source_in jobs.makers store seen) settings.targets) r
-      ∙ each_or_same (is_source_in jobs.makers store seen) (is_source image) (is_ready image settings progress plan) settings.targets
-      (each_of (λ t. is_source image t ≡ true → among (told_sources jobs.makers) t ≡ true) (λ t. is_source_in jobs.makers store seen t ≡ is_source image t)
-      (λ t told. source_same image jobs.makers store seen t agree.stored agree.sighted.sources told) settings.targets agree.asked)
+  pub current_same : (ready current : List Bool) (targets : List Target) → ready ≡ map (is_ready image settings progress plan) settings.targets →
+      targets ≡ map (target_of jobs) settings.targets → current ≡ current_in store seen settings.targets targets ready →
+      current ≡ map (is_current image settings progress plan) settings.targets
+  current_same ready current targets r t c =
+      c ∙ ap (λ (ts : List Target). current_in store seen settings.targets ts ready) t
+      ∙ ap (current_in store seen settings.targets (map (target_of jobs) settings.targets)) r
+      ∙ current_all jobs store seen (is_source image) (is_ready image settings progress plan) settings.targets
+      (each_of (λ t. is_source image t ≡ true → among (told_sources jobs.makers) t ≡ true) (λ t. is_source_told jobs store seen t ≡ is_source image t)
+      (λ t told. source_same image jobs store seen t agree.stored agree.sighted.sources told) settings.targets agree.asked)
 
   pub known_same : (folders : List Path) (known : Listings) →
       folders ≡ filter (λ d. is_ready image settings progress plan d && is_none (listing plan.lists d)) (awaited image settings progress plan) →

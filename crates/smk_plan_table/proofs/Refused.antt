@@ -31,7 +31,7 @@ use Rattle.smk_report.specs.declared.fault.Fault.TheVariants as fault
 use Rattle.smk_drive.specs.Moments.{Rules}
 use Rattle.smk_drive.specs.Refusals.{unless_empty, incomplete, guarded, above_limit, is_ahead, ahead, of_command, refused_of}
 use Rattle.smk_plan_table.specs.Parts.{is_marked_in, is_guarded_in, is_before, before_in, unless_none, marked_in, guarded_in, above_by, above_of, above_in, all_above, paths_in, outputs_of, refusals_in}
-use Rattle.smk_plan_table.specs.Plans.{idle_at, IsUnrefused, fault_in}
+use Rattle.smk_plan_table.specs.Plans.{begun_at, idle_at, IsUnrefused, fault_in}
 use Rattle.smk_plan_table.proofs.Lists.{each_join, each_front, each_back, filter_same, behind, none_there, each_flat, map_flat, tested}
 
 -- ## Outputs
@@ -49,13 +49,14 @@ of_outputs Q jobs h =
     each_flat (λ (j : Job). Each (λ (o : Out). Q o.path) (outs_of j.recipe)) Q (λ (j : Job). out_paths j.recipe) (λ (j : Job) k. of_items Q j.recipe.outputs k) jobs h
 
 -- what holds of each job holds of those that are ahead
-pub of_front : (P : Job → Type 0) (begun : Path → Bool) (jobs : List Job) (states : List State) → Each P jobs → Each P (before_in begun jobs states)
-of_front P begun [] states h = tt
-of_front P begun (j ∷ jobs) [] h = tt
-of_front P begun (j ∷ jobs) (s ∷ states) h =
-    each_join P (if is_before begun j s then j ∷ [] else []) (before_in begun jobs states) (maybe (is_before begun j s)) (of_front P begun jobs states h.1)
+pub of_front : (P : Job → Type 0) (jobs : List Job) (states : List State) (flags : List Bool) → Each P jobs → Each P (before_in jobs states flags)
+of_front P [] states flags h = tt
+of_front P (j ∷ jobs) [] flags h = tt
+of_front P (j ∷ jobs) (s ∷ states) [] h = tt
+of_front P (j ∷ jobs) (s ∷ states) (b ∷ flags) h =
+    each_join P (if is_before s b then j ∷ [] else []) (before_in jobs states flags) (maybe (is_before s b)) (of_front P jobs states flags h.1)
   where
-    maybe : (b : Bool) → Each P (if b then j ∷ [] else [])
+    maybe : (v : Bool) → Each P (if v then j ∷ [] else [])
     maybe true = (h.0, tt)
     maybe false = tt
 
@@ -81,6 +82,9 @@ guarded_same image seen p e = ap (test_some (λ (s : Sight). s.guarded)) e.1
 
 -- ## Jobs that are ahead
 
+abbrev pub front_of : Progress → Plan → List Job
+front_of progress plan = before_in plan.jobs plan.states (begun_at progress plan.jobs)
+
 module _ (rules : Rules) (image : Image) (progress : Progress) (plan : Plan) where
   one_ahead : (b : Bool) (e : Job × State) (es : List (Job × State)) →
       (if b then e.0 ∷ [] else []) ++ map (λ (d : Job × State). d.0) es ≡ map (λ (d : Job × State). d.0) (cond b (e ∷ es) es)
@@ -88,12 +92,12 @@ module _ (rules : Rules) (image : Image) (progress : Progress) (plan : Plan) whe
   one_ahead false e es = refl
 
   pub ahead_same : (jobs : List Job) (states : List State) →
-      before_in (among progress.begun) jobs states ≡ map (λ (e : Job × State). e.0) (filter (is_ahead rules image progress plan) (zip jobs states))
+      before_in jobs states (begun_at progress jobs) ≡ map (λ (e : Job × State). e.0) (filter (is_ahead rules image progress plan) (zip jobs states))
   ahead_same [] states = refl
   ahead_same (j ∷ jobs) [] = refl
   ahead_same (j ∷ jobs) (s ∷ states) =
-      ap (λ ks. (if is_before (among progress.begun) j s then j ∷ [] else []) ++ ks) (ahead_same jobs states)
-      ∙ one_ahead (is_before (among progress.begun) j s) (j, s) (filter (is_ahead rules image progress plan) (zip jobs states))
+      ap (λ ks. (if is_before s (among progress.begun (job_path j)) then j ∷ [] else []) ++ ks) (ahead_same jobs states)
+      ∙ one_ahead (is_before s (among progress.begun (job_path j))) (j, s) (filter (is_ahead rules image progress plan) (zip jobs states))
 
   -- ## One kind after the other
 
@@ -153,9 +157,9 @@ module _ (rules : Rules) (image : Image) (progress : Progress) (plan : Plan) whe
   -- what is refused by the parts, as faults, is what is refused of the plan, but for commands
   refusals_same : (store : List Known) (seen : List Sight) → IsStoreOf image store →
       Each (λ (j : Job). Each (λ (o : Out). IsSeenAs image seen o.path) (outs_of j.recipe)) plan.jobs →
-      map (fault_in rules.flow) (refusals_in store seen rules.settings progress.begun (idle_at progress plan.jobs) plan.jobs plan.states) ≡ image_refusals
+      map (fault_in rules.flow) (refusals_in store seen rules.settings (idle_at progress plan.jobs) (front_of progress plan)) ≡ image_refusals
   refusals_same store seen s h =
-      let front = before_in (among progress.begun) plan.jobs plan.states in
+      let front = front_of progress plan in
       let turn = fault_in rules.flow in
       let same : front ≡ ahead rules image progress plan = ahead_same plan.jobs plan.states in
       map-append turn (marked_in store rules.settings.rerun_incomplete (idle_at progress plan.jobs)) (guarded_in seen front ++ all_above rules.settings.bounds front)
@@ -163,7 +167,7 @@ module _ (rules : Rules) (image : Image) (progress : Progress) (plan : Plan) whe
       ∙ ap (λ fs. incomplete rules image progress plan ++ fs)
       (map-append turn (guarded_in seen front) (all_above rules.settings.bounds front)
       ∙ ap (λ fs. fs ++ map turn (all_above rules.settings.bounds front))
-      (guards_same seen front (of_front (λ (j : Job). Each (λ (o : Out). IsSeenAs image seen o.path) (outs_of j.recipe)) (among progress.begun) plan.jobs plan.states h))
+      (guards_same seen front (of_front (λ (j : Job). Each (λ (o : Out). IsSeenAs image seen o.path) (outs_of j.recipe)) plan.jobs plan.states (begun_at progress plan.jobs) h))
       ∙ ap (λ fs. map fault.Protected (filter (is_guarded image) (outputs_of front)) ++ fs)
       (map_flat turn (above_in rules.settings.bounds) (above_limit rules image progress plan) above_same front)
       ∙ ap (λ ks. map fault.Protected (filter (is_guarded image) (outputs_of ks)) ++ flat_map (above_limit rules image progress plan) ks) same)
@@ -171,11 +175,11 @@ module _ (rules : Rules) (image : Image) (progress : Progress) (plan : Plan) whe
   -- the first of them is the first refusal of the plan
   pub refused_first : (store : List Known) (seen : List Sight) → IsStoreOf image store →
       Each (λ (j : Job). Each (λ (o : Out). IsSeenAs image seen o.path) (outs_of j.recipe)) plan.jobs →
-      (f : PlanFault) → Some f ≡ first (refusals_in store seen rules.settings progress.begun (idle_at progress plan.jobs) plan.jobs plan.states) →
+      (f : PlanFault) → Some f ≡ first (refusals_in store seen rules.settings (idle_at progress plan.jobs) (front_of progress plan)) →
       (rest : List Fault) × (refused_of rules image progress plan ≡ fault_in rules.flow f ∷ rest)
   refused_first store seen s h f e =
       let turn = fault_in rules.flow in
-      let split = behind f (refusals_in store seen rules.settings progress.begun (idle_at progress plan.jobs) plan.jobs plan.states) e in
+      let split = behind f (refusals_in store seen rules.settings (idle_at progress plan.jobs) (front_of progress plan)) e in
       let A = incomplete rules image progress plan in
       let B = guarded rules image progress plan in
       let C = flat_map (above_limit rules image progress plan) (ahead rules image progress plan) in (
@@ -187,12 +191,12 @@ module _ (rules : Rules) (image : Image) (progress : Progress) (plan : Plan) whe
   -- where there is none, the plan isn't refused
   pub unrefused_all : (store : List Known) (seen : List Sight) → IsStoreOf image store →
       Each (λ (j : Job). Each (λ (o : Out). IsSeenAs image seen o.path) (outs_of j.recipe)) plan.jobs →
-      None ≡ first (refusals_in store seen rules.settings progress.begun (idle_at progress plan.jobs) plan.jobs plan.states) → IsUnrefused rules image progress plan
+      None ≡ first (refusals_in store seen rules.settings (idle_at progress plan.jobs) (front_of progress plan)) → IsUnrefused rules image progress plan
   unrefused_all store seen s h e =
       let A = incomplete rules image progress plan in
       let B = guarded rules image progress plan in
       let C = flat_map (above_limit rules image progress plan) (ahead rules image progress plan) in
       let empty : A ++ (B ++ C) ≡ [] =
-      sym (refusals_same store seen s h) ∙ ap (map (fault_in rules.flow)) (none_there (refusals_in store seen rules.settings progress.begun (idle_at progress plan.jobs) plan.jobs plan.states) e) in
+      sym (refusals_same store seen s h) ∙ ap (map (fault_in rules.flow)) (none_there (refusals_in store seen rules.settings (idle_at progress plan.jobs) (front_of progress plan)) e) in
       let later = back_nil A (B ++ C) empty in
       record { complete = front_nil A (B ++ C) empty; unguarded = front_nil B C later; within = back_nil B C later }

@@ -1,3 +1,4 @@
 pub mod Parts
 pub mod Plans
+pub mod Bases
 pub mod Laws

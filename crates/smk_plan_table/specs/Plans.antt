@@ -1,6 +1,6 @@
 -- What a plan tells of an image of the folder, and what is refused of it.
 use Rattle.std.specs.Prelude.{◌≡◌, true, Bool, not, List, [], ◌∷◌, map, filter, bytes_eq}
-use Rattle.std.specs.List.{flat_map, list_any}
+use Rattle.std.specs.List.{flat_map, list_any, AllZip}
 use Rattle.smk_world.specs.Trees.{Path, Each, among}
 use Rattle.smk_flow.specs.declared.job.Job.{Job}
 use Rattle.smk_flow.specs.Flows.{Flow, rule_name}
@@ -24,10 +24,11 @@ use Rattle.smk_drive.specs.Moments.{Rules}
 use Rattle.smk_drive.specs.Refusals.{incomplete, guarded, above_limit, ahead, refused_of}
 use Rattle.smk_plan_facts.specs.Facts.{having_run, told_sources, TellSources, AreMade, NamesAll, HasOwnRecords}
 use Rattle.smk_plan_states.specs.Served.{AreServed}
-use Rattle.smk_plan_states.specs.declared.judged.Judged.{Judged}
-use Rattle.smk_plan_states.specs.declared.table.Table.{Table}
-use Rattle.smk_plan_states.specs.Judged.{Judging, AreJudged, AreStates, with_states}
-use Rattle.smk_plan_states.specs.Tables.{IsTableAt}
+use Rattle.smk_plan_states.specs.declared.rows.Rows.{Rows}
+use Rattle.smk_plan_states.specs.Judged.{Judging, AreStates, with_states}
+use Rattle.smk_plan_states.specs.Rows.{AreRowsAt}
+use Rattle.smk_plan_table.specs.declared.suspects.Suspect.{Suspect}
+use Rattle.smk_plan_table.specs.Parts.{IsSuspectOf}
 
 -- ## What a plan is made from
 
@@ -57,11 +58,13 @@ abbrev pub WhereAgreed : Jobs → List Known → List Sight → Settings → (Ju
 WhereAgreed jobs store seen settings Q =
     (image : Image) (progress : Progress) → Agree image jobs store seen settings.targets → Q (record { image = image; settings = settings; progress = progress })
 
--- What a plan is made of is so: these have begun, the table is that of the jobs, and this is judged of them.
-pub record IsGiven (at : Judging) (jobs : Jobs) (table : Table) (ran : List Path) (judged : Judged) : Type 0 where
-  pub begun : at.progress.begun ≡ ran
-  pub told : IsTableAt at jobs table
-  pub right : AreJudged at jobs judged
+-- What a plan is made of is so: the rows of the moment tell what is so there, these flags which of the jobs have begun, and of no job is anything refused that
+-- isn't suspected.
+pub record IsGiven
+    (at : Judging) (jobs : Jobs) (store : List Known) (seen : List Sight) (rows : Rows) (flags : List Bool) (suspects : List Suspect) : Type 0 where
+  pub right : AreRowsAt at jobs rows
+  pub begun : flags ≡ map (λ (j : Job). among at.progress.begun (job_path j)) jobs.jobs
+  pub doubted : AllZip (IsSuspectOf store seen at.settings.bounds) jobs.jobs suspects
 
 -- a child of the job runs
 abbrev pub runs_at : Progress → Job → Bool
@@ -71,11 +74,9 @@ runs_at progress j = list_any (λ (e : Path × State). bytes_eq e.0 (job_path j)
 abbrev pub idle_at : Progress → List Job → List Job
 idle_at progress jobs = filter (λ j. not (runs_at progress j)) jobs
 
--- These have begun, those of the jobs whose child doesn't run are the idle ones, and the states are those of the table.
-pub record AreRanked (at : Judging) (jobs : Jobs) (ran : List Path) (idle : List Job) (states : List State) : Type 0 where
-  pub begun : at.progress.begun ≡ ran
-  pub rests : idle ≡ idle_at at.progress jobs.jobs
-  pub table : AreStates at jobs states
+-- which of the jobs have begun
+abbrev pub begun_at : Progress → List Job → List Bool
+begun_at progress jobs = map (λ (j : Job). among progress.begun (job_path j)) jobs
 
 -- ## What a plan tells
 

@@ -1,19 +1,14 @@
 //! Which targets are current.
 
-ghost use Rattle.std.specs.Prelude.{◌≡◌, ◌&&◌, ◌||◌, not, true, IfOk};
-ghost use Rattle.std.specs.BTreeSet.{contains_text};
+ghost use Rattle.std.specs.Prelude.{◌≡◌, ◌&&◌, true, IfOk};
 ghost use Rattle.smk_world.specs.Trees.{is_path_text};
-ghost use Rattle.smk_store.specs.Stores.{is_covered_in};
-ghost use Rattle.smk_plan_facts.specs.Facts.{told_sources};
-ghost use Rattle.smk_plan_table.specs.Parts.{is_file_in, is_source_in, first_flag, later_flags, each_or};
+ghost use Rattle.smk_plan_table.specs.Parts.{current_in, first_flag, first_source, is_file_in, is_source_seen, later_flags, later_targets};
 
-use crate::sets::sources_of;
 use smk_base::{List, OutOfMemory, PathText};
-use smk_chain::Maker;
 use smk_plan::Told;
+use smk_plan_states::Target;
 use smk_world::Stat;
 use std::alloc::Global;
-use std::collections::BTreeSet;
 
 // Whether a file was seen at the path.
 fn is_file<T: Told>(told: &T, path: &PathText) -> bool
@@ -25,25 +20,25 @@ fn is_file<T: Told>(told: &T, path: &PathText) -> bool
     }
 }
 
-// The text of the path, which is one as it stands in a contract.
-fn text_of(path: &PathText) -> &str
-    ensures same { result.now ≡ path.now }
-    ensures text { is_path_text path.now ≡ true }
+// Looks at the path, which tells that it is one as a text.
+fn see_text(path: &PathText)
+    ensures { is_path_text path.now ≡ true }
 {
-    path.as_str()
+    // The call tells it.
+    let _text = path.as_str();
 }
 
-// Whether the path is one of these, a file was seen there, and nothing covers it.
+// Whether the path is told of as a source, a file was seen there, and nothing covers it.
 fn is_source<T: Told>(
     alloc: Global,
-    sources: &BTreeSet<String>,
     told: &T,
     path: &PathText,
+    is_told: bool,
 ) -> Result<bool, OutOfMemory>
-    ensures { IfOk result (λ found. found ≡ (contains_text sources.now path.now
-        && (is_path_text path.now && (is_file_in (T.seen told.now) path.now && not (is_covered_in (T.known told.now) path.now))))) }
+    ensures { IfOk result (λ found. found ≡ (is_told && is_source_seen (T.known told.now) (T.seen told.now) path.now)) }
 {
-    if !sources.contains(text_of(path)) {
+    see_text(path);
+    if !is_told {
         return Ok(false);
     }
     if !is_file(told, path) {
@@ -64,38 +59,37 @@ fn next_flag(flags: &[bool]) -> (bool, &[bool])
     }
 }
 
-// For each target whether it is one of the sources or is ready.
-fn either<T: Told>(
-    alloc: Global,
-    sources: &BTreeSet<String>,
-    told: &T,
-    targets: &[PathText],
-    ready: &[bool],
-) -> Result<List<bool>, OutOfMemory>
-    ensures { IfOk result (λ found. found ≡ each_or
-        (λ t. contains_text sources.now t && (is_path_text t && (is_file_in (T.seen told.now) t && not (is_covered_in (T.known told.now) t)))) targets.now ready.now) }
+// Whether the first of the targets is told of as a source, false where there is none; and those after it.
+fn next_target(targets: &[Target]) -> (bool, &[Target])
+    ensures first { result.0 ≡ first_source targets.now }
+    ensures later { result.1.now ≡ later_targets targets.now }
 {
-    let mut found = List::new(alloc);
-    let mut rest = ready;
-    for target in targets {
-        let (is_ready, later) = next_flag(rest);
-        let is_source = is_source(alloc, sources, told, target)?;
-        found.push(is_source || is_ready)?;
-        rest = later;
+    match targets.split_first() {
+        Some((target, later)) => (target.source, later),
+        None => (false, targets),
     }
-    Ok(found)
 }
 
-/// For each target whether it is a source, or ready.
+/// For each of these paths of targets whether it is a source, or ready.
 pub(crate) fn current<T: Told>(
     alloc: Global,
-    makers: &List<Maker>,
     told: &T,
-    targets: &List<PathText>,
-    ready: &List<bool>,
+    paths: &[PathText],
+    targets: &[Target],
+    ready: &[bool],
 ) -> Result<List<bool>, OutOfMemory>
-    ensures { IfOk result (λ found. found ≡ each_or (is_source_in makers.now (T.known told.now) (T.seen told.now)) targets.now ready.now) }
+    ensures { IfOk result (λ found. found ≡ current_in (T.known told.now) (T.seen told.now) paths.now targets.now ready.now) }
 {
-    let sources = sources_of(alloc, makers.as_slice())?;
-    either(alloc, &sources, told, targets.as_slice(), ready.as_slice())
+    let mut found = List::new(alloc);
+    let mut other_targets = targets;
+    let mut other_flags = ready;
+    for path in paths {
+        let (is_told, later_targets) = next_target(other_targets);
+        let (is_ready, later_flags) = next_flag(other_flags);
+        let is_source = is_source(alloc, told, path, is_told)?;
+        found.push(is_source || is_ready)?;
+        other_targets = later_targets;
+        other_flags = later_flags;
+    }
+    Ok(found)
 }

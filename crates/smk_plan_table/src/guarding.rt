@@ -7,8 +7,8 @@ ghost use Rattle.smk_plan_table.specs.Parts.{shown, is_guarded_in};
 use smk_base::PathText;
 use smk_plan::Told;
 
-// Whether a read-only file was seen at the path or under it.
-fn is_guarded<T: Told>(told: &T, path: &PathText) -> bool
+/// Whether a read-only file was seen at the path or under it.
+pub(crate) fn is_guarded<T: Told>(told: &T, path: &PathText) -> bool
     ensures { result ≡ is_guarded_in (T.seen told.now) path.now }
 {
     match told.sight(path) {

@@ -1,64 +1,56 @@
 //! A plan of derived jobs.
 
-ghost use Rattle.std.specs.Prelude.{◌≡◌, ◌≢◌, List as Items, length, IfOk, IfErr};
-ghost use Rattle.smk_world.specs.Trees.{Path};
+ghost use Rattle.std.specs.Prelude.{◌≡◌, ◌≢◌, length, IfOk, IfErr};
 ghost use Rattle.smk_store.specs.Images.{Image};
-ghost use Rattle.smk_plan_states.specs.Tables.{IsTable, IsTableAt};
-ghost use Rattle.smk_plan_states.specs.Judged.{Judging, AreJudged, AreStates};
-ghost use Rattle.smk_plan_table.specs.Parts.{shown, idle_in};
-ghost use Rattle.smk_plan_table.specs.Plans.{Agree, AreRanked, HasMade, HasMadeAt, IsGiven, IsRefused, IsRefusedAt, WhereAgreed, listings_known, targets_current};
+ghost use Rattle.smk_chain.specs.declared.jobs.Jobs.{Jobs as JobsValue};
+ghost use Rattle.smk_plan_states.specs.Judged.{AreStates};
+ghost use Rattle.smk_plan_states.specs.Rows.{AreRowsAt};
+ghost use Rattle.smk_plan_states.specs.Tables.{IsTableAt, IsTableOf};
+ghost use Rattle.smk_plan_table.specs.Bases.{IsBasisAt};
+ghost use Rattle.smk_plan_table.specs.Parts.{shown};
+ghost use Rattle.smk_plan_table.specs.Plans.{Agree, HasMade, HasMadeAt, IsGiven, IsRefused, IsRefusedAt, WhereAgreed, listings_known, targets_current};
 
 use crate::current::current;
 use crate::judging::{Basis, judge};
+use crate::lending::references;
 use crate::listings::listings_of;
-use crate::refusing::{first_refusal, idle_among};
+use crate::refusing::first_refusal;
+use crate::suspects::Suspect;
 use smk_base::{List, OutOfMemory, PathText};
 use smk_chain::Jobs;
-use smk_flow::Job;
 use smk_pick::Settings;
 use smk_plan::{Loaded, Plan, PlanFault, Seen, Told};
-use smk_plan_states::{Judged, Table};
+use smk_plan_states::{Rows, Table};
 use smk_store::Store;
-use smk_trigger::State;
+use smk_trigger::{Reason, State};
 use std::alloc::Global;
 use std::thread::Threads;
-
-// The jobs whose child doesn't run, and the states of all.
-fn idle_and_states<'j>(
-    alloc: Global,
-    jobs: &'j Jobs,
-    table: &Table<'_>,
-    judged: Judged,
-) -> Result<(Vec<&'j Job>, List<State>), OutOfMemory>
-    ensures each { IfOk result (λ made. (targets : Items Path) → IsTable jobs.now targets table.now → length made.1 ≡ length jobs.now.jobs) }
-    ensures idle { IfOk result (λ made. shown made.0.items ≡ idle_in jobs.now.jobs judged.running) }
-    ensures states { IfOk result (λ made. (at : Judging) → IsTableAt at jobs.now table.now → AreJudged at jobs.now judged → AreStates at jobs.now made.1) }
-{
-    let idle = idle_among(alloc, jobs.jobs.as_slice(), judged.running.as_slice())?;
-    let states = table.states(alloc, judged)?;
-    Ok((idle, states))
-}
 
 // What a plan tells of jobs of these states.
 fn tell<T: Told>(
     alloc: Global,
-    jobs: &Jobs,
-    table: &Table<'_>,
+    table: &Table,
     told: &T,
     settings: &Settings,
+    rows: &Rows<'_>,
     states: List<State>,
 ) -> Result<Plan, OutOfMemory>
-    requires each { length states ≡ length jobs.now.jobs }
     ensures targets { IfOk result (λ made. length made.current ≡ length settings.now.targets) }
     ensures states { IfOk result (λ made. made.states ≡ states) }
-    ensures current { IfOk result (λ made. WhereAgreed jobs.now (T.known told.now) (T.seen told.now) settings.now
-        (λ at. IsTableAt at jobs.now table.now → made.current ≡ targets_current at jobs.now states)) }
-    ensures known { IfOk result (λ made. WhereAgreed jobs.now (T.known told.now) (T.seen told.now) settings.now
-        (λ at. IsTableAt at jobs.now table.now → made.known ≡ listings_known at jobs.now states)) }
+    ensures current { IfOk result (λ made. (jobs : JobsValue) → WhereAgreed jobs (T.known told.now) (T.seen told.now) settings.now
+        (λ at. IsTableAt at jobs table.now → AreRowsAt at jobs rows.now → length states ≡ length jobs.jobs → made.current ≡ targets_current at jobs states)) }
+    ensures known { IfOk result (λ made. (jobs : JobsValue) → WhereAgreed jobs (T.known told.now) (T.seen told.now) settings.now
+        (λ at. IsTableAt at jobs table.now → AreRowsAt at jobs rows.now → length states ≡ length jobs.jobs → made.known ≡ listings_known at jobs states)) }
 {
-    let ready = table.ready_targets(alloc, &states)?;
-    let folders = table.newly_ready(alloc, &states)?;
-    let are_current = current(alloc, &jobs.makers, told, &settings.targets, &ready)?;
+    let ready = table.ready_targets(alloc, rows, states.as_slice())?;
+    let folders = table.newly_ready(alloc, rows, states.as_slice())?;
+    let are_current = current(
+        alloc,
+        told,
+        settings.targets.as_slice(),
+        table.targets(),
+        ready.as_slice(),
+    )?;
     let known = listings_of(alloc, told, folders.as_slice())?;
     Ok(Plan {
         states,
@@ -67,73 +59,139 @@ fn tell<T: Told>(
     })
 }
 
-// The plan of jobs of these states, or the first thing that is refused of it; the children of `idle` don't run.
+// The plan of jobs of these states, or the first thing that is refused of it.
 fn plan_by<T: Told>(
     alloc: Global,
     jobs: &Jobs,
-    table: &Table<'_>,
-    idle: &[&Job],
+    table: &Table,
     told: &T,
     settings: &Settings,
-    ran: &List<PathText>,
+    rows: &Rows<'_>,
+    begun: &[bool],
+    suspects: &[Suspect],
     states: List<State>,
 ) -> Result<Plan, PlanFault>
+    requires table { IsTableOf jobs.now settings.now.targets table.now }
     requires each { length states ≡ length jobs.now.jobs }
     ensures targets { IfOk result (λ made. length made.current ≡ length settings.now.targets) }
     ensures states { IfOk result (λ made. made.states ≡ states) }
     ensures made { IfOk result (λ made. WhereAgreed jobs.now (T.known told.now) (T.seen told.now) settings.now
-        (λ at. IsTableAt at jobs.now table.now → AreRanked at jobs.now ran.now (shown idle.now) states → HasMadeAt at jobs.now made)) }
+        (λ at. IsGiven at jobs.now (T.known told.now) (T.seen told.now) rows.now begun.now suspects.now → AreStates at jobs.now states → HasMadeAt at jobs.now made)) }
     ensures refused { IfErr result (λ fault. fault ≢ PlanFault.OutOfMemory → WhereAgreed jobs.now (T.known told.now) (T.seen told.now) settings.now
-        (λ at. AreRanked at jobs.now ran.now (shown idle.now) states → IsRefusedAt at jobs.now fault)) }
+        (λ at. IsGiven at jobs.now (T.known told.now) (T.seen told.now) rows.now begun.now suspects.now → AreStates at jobs.now states → IsRefusedAt at jobs.now fault)) }
 {
-    match first_refusal(alloc, &jobs.jobs, idle, &states, told, settings, ran) {
+    match first_refusal(
+        alloc,
+        jobs.jobs.as_slice(),
+        rows.running,
+        states.as_slice(),
+        told,
+        settings,
+        begun,
+        suspects,
+    ) {
         Err(_) => Err(PlanFault::OutOfMemory),
         Ok(Some(fault)) => Err(fault),
-        Ok(None) => match tell(alloc, jobs, table, told, settings, states) {
+        Ok(None) => match tell(alloc, table, told, settings, rows, states) {
             Err(_) => Err(PlanFault::OutOfMemory),
             Ok(made) => Ok(made),
         },
     }
 }
 
-/// The plan of these jobs at any moment, by their table and what is told of paths then: their states, which targets are current, and the listings that have
-/// become known besides those with which the jobs were derived. The jobs with the first outputs `ran` have begun in this run.
+/// The plan of these jobs at any moment, by their table, the rows of the moment and what is told of paths then: their states, which targets are current, and the
+/// listings that have become known besides those with which the jobs were derived. `begun` tells for each job whether it has begun in this run, and `suspects`
+/// what may be refused of it.
 ///
-/// What is told, and what the table, these and the makers of the jobs say, is so in one image of the folder.
+/// What is told, and what the rows and the makers of the jobs say, is so in one image of the folder.
 ///
 /// The fault is the first thing that is refused: all marked outputs of jobs whose child doesn't run, unless incomplete jobs are to be run again; the first
 /// read-only file in the way of a job that is to run and hasn't begun; the first such job that asks more of a resource than its bound, with the first such
 /// bound. `OutOfMemory` where there is no memory for the plan, or where the last of these can't be told: no number of 64 bits tells how much is asked, or the
-/// job has no output to be named by. The time is near linear in the jobs, their inputs, outputs and makers and the targets.
+/// job has no output to be named by.
+///
+/// The time is linear in the jobs with their inputs and outputs, by numbers; paths are looked up only of targets that are sources and of directories that have
+/// become ready, and of the outputs of jobs where something is suspected.
 pub fn plan_now<T: Told>(
     alloc: Global,
     jobs: &Jobs,
-    table: &Table<'_>,
+    table: &Table,
     told: &T,
     settings: &Settings,
-    ran: &List<PathText>,
-    judged: Judged,
+    rows: &Rows<'_>,
+    begun: &[bool],
+    suspects: &[Suspect],
 ) -> Result<Plan, PlanFault>
-    requires table { IsTable jobs.now settings.now.targets table.now }
+    requires table { IsTableOf jobs.now settings.now.targets table.now }
     ensures each { IfOk result (λ made. length made.states ≡ length jobs.now.jobs) }
     ensures targets { IfOk result (λ made. length made.current ≡ length settings.now.targets) }
     ensures made { IfOk result (λ made. WhereAgreed jobs.now (T.known told.now) (T.seen told.now) settings.now
-        (λ at. IsGiven at jobs.now table.now ran.now judged → HasMadeAt at jobs.now made)) }
+        (λ at. IsGiven at jobs.now (T.known told.now) (T.seen told.now) rows.now begun.now suspects.now → HasMadeAt at jobs.now made)) }
     ensures refused { IfErr result (λ fault. fault ≢ PlanFault.OutOfMemory → WhereAgreed jobs.now (T.known told.now) (T.seen told.now) settings.now
-        (λ at. IsGiven at jobs.now table.now ran.now judged → IsRefusedAt at jobs.now fault)) }
+        (λ at. IsGiven at jobs.now (T.known told.now) (T.seen told.now) rows.now begun.now suspects.now → IsRefusedAt at jobs.now fault)) }
 {
-    match idle_and_states(alloc, jobs, table, judged) {
+    match table.states(alloc, rows) {
         Err(_) => Err(PlanFault::OutOfMemory),
-        Ok((idle, states)) => plan_by(
-            alloc,
-            jobs,
-            table,
-            idle.as_slice(),
-            told,
-            settings,
-            ran,
-            states,
+        Ok(states) => plan_by(
+            alloc, jobs, table, told, settings, rows, begun, suspects, states,
         ),
+    }
+}
+
+// What is lent of a basis, job by job.
+#[derive(Drop)]
+struct Lent<'b> {
+    outputs: Vec<&'b List<bool>>,
+    reasons: Vec<&'b List<Reason>>,
+}
+
+// What the basis lends.
+fn lend<'b>(alloc: Global, basis: &'b Basis) -> Result<Lent<'b>, OutOfMemory>
+    ensures outputs { IfOk result (λ made. shown made.outputs.items ≡ basis.now.wholes.outputs) }
+    ensures reasons { IfOk result (λ made. shown made.reasons.items ≡ basis.now.judged.reasons) }
+{
+    let outputs = references(alloc, basis.wholes.outputs.as_slice())?;
+    let reasons = references(alloc, basis.judged.reasons.as_slice())?;
+    Ok(Lent { outputs, reasons })
+}
+
+// The plan of jobs by what is told of them, where none runs.
+fn plan_of<T: Told>(
+    alloc: Global,
+    jobs: &Jobs,
+    told: &T,
+    settings: &Settings,
+    basis: &Basis,
+) -> Result<Plan, PlanFault>
+    requires table { IsTableOf jobs.now settings.now.targets basis.now.table }
+    ensures each { IfOk result (λ made. length made.states ≡ length jobs.now.jobs) }
+    ensures targets { IfOk result (λ made. length made.current ≡ length settings.now.targets) }
+    ensures made { IfOk result (λ made. WhereAgreed jobs.now (T.known told.now) (T.seen told.now) settings.now
+        (λ at. IsBasisAt at jobs.now (T.known told.now) (T.seen told.now) basis.now → HasMadeAt at jobs.now made)) }
+    ensures refused { IfErr result (λ fault. fault ≢ PlanFault.OutOfMemory → WhereAgreed jobs.now (T.known told.now) (T.seen told.now) settings.now
+        (λ at. IsBasisAt at jobs.now (T.known told.now) (T.seen told.now) basis.now → IsRefusedAt at jobs.now fault)) }
+{
+    match lend(alloc, basis) {
+        Err(_) => Err(PlanFault::OutOfMemory),
+        Ok(lent) => {
+            let rows = Rows {
+                outputs: lent.outputs.as_slice(),
+                makers: basis.wholes.makers.as_slice(),
+                reasons: lent.reasons.as_slice(),
+                forced: basis.judged.forced.as_slice(),
+                running: basis.judged.running.as_slice(),
+            };
+            plan_now(
+                alloc,
+                jobs,
+                &basis.table,
+                told,
+                settings,
+                &rows,
+                basis.begun.as_slice(),
+                basis.suspects.as_slice(),
+            )
+        }
     }
 }
 
@@ -165,13 +223,6 @@ pub fn plan<Rt: Threads + Sync>(
 {
     match judge(rt, alloc, jobs, store, seen, settings, ran) {
         Err(_) => Err(PlanFault::OutOfMemory),
-        Ok(basis) => {
-            let Basis { judged, wholes } = basis;
-            let told = Loaded { store, seen };
-            match Table::of(alloc, jobs, &settings.targets, &wholes) {
-                Err(_) => Err(PlanFault::OutOfMemory),
-                Ok(table) => plan_now(alloc, jobs, &table, &told, settings, ran, judged),
-            }
-        }
+        Ok(basis) => plan_of(alloc, jobs, &Loaded { store, seen }, settings, &basis),
     }
 }

@@ -1,27 +1,26 @@
 //! What is refused of a plan first.
 
-ghost use Rattle.std.specs.Prelude.{◌≡◌, ◌&&◌, ◌++◌, ◌∷◌, [], not, is_none, map, zip, filter, IfOk, OnOk, if◌then◌else◌};
-ghost use Rattle.std.specs.BTreeSet.{contains_text};
-ghost use Rattle.smk_world.specs.Trees.{Path, among, first};
+ghost use Rattle.std.specs.Prelude.{◌≡◌, ◌++◌, ◌∷◌, [], IfOk, OnOk, if◌then◌else◌};
+ghost use Rattle.std.specs.List.{AllZip};
+ghost use Rattle.smk_world.specs.Trees.{first};
 ghost use Rattle.smk_trigger.specs.JobStates.{is_to_run};
-ghost use Rattle.smk_plan.specs.States.{job_path};
-ghost use Rattle.smk_plan_table.specs.Parts.{shown, is_before, before_in, idle_in, marked_in, guarded_in, all_above, refusals_in};
+ghost use Rattle.smk_plan_table.specs.Parts.{shown, before_in, idle_in, marked_in, guarded_in, all_above, refusals_in, IsSuspectOf};
 
+use crate::doubting::may_be_refused;
 use crate::guarding::first_guarded;
 use crate::marking::marked_among;
 use crate::outputs::outputs_of;
 use crate::room::first_above;
-use smk_base::{List, OutOfMemory, PathText};
-use smk_chain::sets::set_of;
+use crate::suspects::Suspect;
+use smk_base::OutOfMemory;
 use smk_flow::Job;
 use smk_pick::Settings;
-use smk_plan::{PlanFault, Told, name_of};
+use smk_plan::{PlanFault, Told};
 use smk_trigger::State;
 use std::alloc::Global;
-use std::collections::BTreeSet;
 
-// Whether a job of this state has to run.
-fn has_to_run(state: &State) -> bool
+/// Whether a job of this state has to run.
+pub(crate) fn has_to_run(state: &State) -> bool
     ensures { result ≡ is_to_run state.now }
 {
     match state {
@@ -30,13 +29,6 @@ fn has_to_run(state: &State) -> bool
         State::Open => false,
         State::Clean => false,
     }
-}
-
-// Whether the job is named by one of these paths.
-fn has_begun(begun: &BTreeSet<String>, job: &Job) -> bool
-    ensures { result ≡ contains_text begun.now (job_path job.now) }
-{
-    begun.contains(name_of(job))
 }
 
 // Adds the job where this holds.
@@ -51,41 +43,33 @@ fn push_if<'j>(found: &mut Vec<&'j Job>, holds: bool, job: &'j Job) -> Result<()
 }
 
 // Those of the jobs that have to run and haven't begun, in order.
-fn ahead_by<'j>(
-    alloc: Global,
-    jobs: &'j [Job],
-    states: &[State],
-    begun: &BTreeSet<String>,
-) -> Result<Vec<&'j Job>, OutOfMemory>
-    ensures { IfOk result (λ found. shown found.items ≡ before_in (contains_text begun.now) jobs.now states.now) }
-{
-    let mut found = Vec::new(alloc);
-    let mut rest = states;
-    for job in jobs {
-        let Some((state, more)) = rest.split_first() else {
-            return Ok(found);
-        };
-        push_if(&mut found, has_to_run(state) && !has_begun(begun, job), job)?;
-        rest = more;
-    }
-    Ok(found)
-}
-
-// The same, where the jobs with the first outputs `ran` have begun.
 fn ahead<'j>(
     alloc: Global,
     jobs: &'j [Job],
     states: &[State],
-    ran: &[PathText],
+    begun: &[bool],
 ) -> Result<Vec<&'j Job>, OutOfMemory>
-    ensures { IfOk result (λ found. shown found.items ≡ before_in (among ran.now) jobs.now states.now) }
+    ensures { IfOk result (λ found. shown found.items ≡ before_in jobs.now states.now begun.now) }
 {
-    let begun = set_of(alloc, ran)?;
-    ahead_by(alloc, jobs, states, &begun)
+    let mut found = Vec::new(alloc);
+    let mut rest = states;
+    let mut flags = begun;
+    for job in jobs {
+        let Some((state, more)) = rest.split_first() else {
+            return Ok(found);
+        };
+        let Some((has_begun, others)) = flags.split_first() else {
+            return Ok(found);
+        };
+        push_if(&mut found, has_to_run(state) && !*has_begun, job)?;
+        rest = more;
+        flags = others;
+    }
+    Ok(found)
 }
 
-/// Those of the jobs whose child doesn't run, in order. `running` has for each job the state that it had when it began, if its child runs.
-pub(crate) fn idle_among<'j>(
+// Those of the jobs whose child doesn't run, in order. `running` has for each job the state that it had when it began, if its child runs.
+fn idle_among<'j>(
     alloc: Global,
     jobs: &'j [Job],
     running: &[Option<State>],
@@ -156,43 +140,43 @@ fn refused_ahead<T: Told>(
     }
 }
 
-// The first thing that is refused of those jobs that have to run and haven't begun.
-fn refused_to_run<T: Told>(
+// The first thing that is refused, where the children of `idle` don't run, and those in `front` have to run and haven't begun.
+fn refused_of<T: Told>(
     alloc: Global,
-    jobs: &[Job],
-    states: &[State],
-    told: &T,
-    settings: &Settings,
-    ran: &[PathText],
-) -> Result<Option<PlanFault>, OutOfMemory>
-    ensures { IfOk result (λ found. found ≡ first (guarded_in (T.seen told.now) (before_in (among ran.now) jobs.now states.now)
-        ++ all_above settings.now.bounds (before_in (among ran.now) jobs.now states.now))) }
-{
-    let front = ahead(alloc, jobs, states, ran)?;
-    refused_ahead(alloc, front.as_slice(), told, settings)
-}
-
-/// The first thing that is refused of jobs of these states, of which those with the first outputs `ran` have begun; the children of `idle` don't run.
-pub(crate) fn first_refusal<T: Told>(
-    alloc: Global,
-    jobs: &List<Job>,
     idle: &[&Job],
-    states: &List<State>,
+    front: &[&Job],
     told: &T,
     settings: &Settings,
-    ran: &List<PathText>,
 ) -> Result<Option<PlanFault>, OutOfMemory>
-    ensures { IfOk result (λ found. found ≡ first (refusals_in (T.known told.now) (T.seen told.now) settings.now ran.now (shown idle.now) jobs.now states.now)) }
+    ensures { IfOk result (λ found. found ≡ first (refusals_in (T.known told.now) (T.seen told.now) settings.now (shown idle.now) (shown front.now))) }
 {
     match incomplete(alloc, idle, told, settings.rerun_incomplete)? {
         Some(fault) => Ok(Some(fault)),
-        None => refused_to_run(
-            alloc,
-            jobs.as_slice(),
-            states.as_slice(),
-            told,
-            settings,
-            ran.as_slice(),
-        ),
+        None => refused_ahead(alloc, front, told, settings),
     }
+}
+
+/// The first thing that is refused of jobs of these states. `running` has for each the state that it had when it began, if its child runs, `begun` tells for each
+/// whether it has begun, and `suspects` what may be refused of it: what isn't suspected of any isn't looked for.
+pub(crate) fn first_refusal<T: Told>(
+    alloc: Global,
+    jobs: &[Job],
+    running: &[Option<State>],
+    states: &[State],
+    told: &T,
+    settings: &Settings,
+    begun: &[bool],
+    suspects: &[Suspect],
+) -> Result<Option<PlanFault>, OutOfMemory>
+    ensures { IfOk result (λ found. AllZip (IsSuspectOf (T.known told.now) (T.seen told.now) settings.now.bounds) jobs.now suspects.now
+        → found ≡ first (refusals_in (T.known told.now) (T.seen told.now) settings.now (idle_in jobs.now running.now) (before_in jobs.now states.now begun.now))) }
+{
+    let is_doubted = may_be_refused(settings.rerun_incomplete, running, states, suspects);
+    if !is_doubted {
+        return Ok(None);
+    }
+    let idle = idle_among(alloc, jobs, running)?;
+    let front = ahead(alloc, jobs, states, begun)?;
+    let found = refused_of(alloc, idle.as_slice(), front.as_slice(), told, settings)?;
+    Ok(found)
 }

@@ -1,18 +1,21 @@
-use Rattle.std.proofs.Common.{◌≡◌, ◌∙◌, zip, sym, ap}
-use Rattle.std.specs.BTreeSet.{contains_text}
+use Rattle.std.proofs.Common.{◌≡◌, ◌∙◌, false, length, replicate, zip, sym, ap}
 use Rattle.smk_chain.specs.declared.jobs.Jobs.{Jobs}
 use Rattle.smk_plan.specs.declared.plan.Plan.{Plan as Told}
-use Rattle.smk_drive_pick.specs.Spending.{is_ripe, ripe_in}
+use Rattle.smk_plan_states.specs.declared.table.Table.{Table}
+use Rattle.smk_drive_pick.specs.Spending.{need_all, ripe_in}
 use Rattle.smk_drive_pick.proofs.Spent.{ripe_is}
 use Rattle.smk_drive_pick.proofs.spending.ripe_now.Goals as goal
 
 pub returns : goal.returns
-returns c = λ done free at judged back.
+returns c = λ alive done free wholes at judged back.
     let live = c.args.live.now in
-    let uses = c.in_ok-uses.uses in
+    let table : c.table-table.result.now ≡ live.table = c.table-table.ensures.value in
     let jobs : c.as_slice-jobs.result.now ≡ live.base.jobs.jobs = c.as_slice-jobs.ensures ∙ ap (λ (j : Jobs). j.jobs) c.jobs.ensures in
+    let lines : c.lines-lines.result.now ≡ live.table.lines = c.lines-lines.ensures ∙ ap (λ (t : Table). t.lines) table in
+    let origins : c.origins.result.now ≡ live.table.origins = c.origins.ensures ∙ ap (λ (t : Table). t.origins) table in
     let states : c.as_slice-states.result.now ≡ live.plan.states = c.as_slice-states.ensures ∙ ap (λ (p : Told). p.states) c.as_plan.ensures.value in
     c.in_ok-found.ensures
-    ∙ (λ i. ripe_in (λ q. contains_text uses.awaited q) (is_ripe live (λ q. contains_text uses.targets q) (λ q. contains_text uses.needed q))
-    (zip (jobs i) (states i)))
-    ∙ ripe_is at live c.args.wholes.now judged uses c.in_ok-uses.ensures done (sym back ∙ free)
+    ∙ ap (λ needed. ripe_in live needed (zip c.as_slice-jobs.result.now (zip c.lines-lines.result.now c.as_slice-states.result.now)))
+    (c.as_slice.ensures.value ∙ c.in_ok-needed.ensures)
+    ∙ (λ i. ripe_in live (need_all (replicate (length (origins i)) false) (zip (lines i) (states i))) (zip (jobs i) (zip (lines i) (states i))))
+    ∙ ripe_is at live wholes judged alive.table done (sym back ∙ free)

@@ -1,34 +1,55 @@
-use Rattle.std.proofs.Common.{◌≡◌, ◌∙◌, sym, ap}
+use Rattle.std.proofs.Common.{◌≡◌, ◌∙◌, refl, sym, ap}
 use Rattle.std.specs.List.{list_all, list_any}
 use Rattle.smk_plan.specs.declared.plan.Plan.{Plan as Told}
 use Rattle.smk_chain.specs.declared.jobs.Jobs.{Jobs}
 use Rattle.smk_drive_pick.specs.Spending.{has_temps, is_done_with}
+use Rattle.smk_drive_pick.proofs.Freed.{whole_now}
 use Rattle.smk_drive_pick.proofs.Spent.{none_undone, none_temporary, none_while_held}
 use Rattle.smk_drive_pick.proofs.spending.spent_paths.Goals as goal
 
 pub returns-then-not-any_temporary : goal.returns-then-not-any_temporary
-returns-then-not-any_temporary c = λ at judged back.
+returns-then-not-any_temporary c =
     let jobs : c.as_slice.result.now ≡ c.args.live.now.base.jobs.jobs = c.as_slice.ensures ∙ ap (λ (j : Jobs). j.jobs) c.jobs.ensures in
-    c.new.ensures
-    ∙ sym (none_temporary at c.args.live.now c.args.wholes.now judged
-    (sym (ap (list_any has_temps) jobs) ∙ sym c.any_temporary.ensures ∙ c.if-not-any_temporary.true))
+    record {
+      wholes = whole_now c.args.live.now;
+      whole = λ sorted. refl;
+      spent = λ at judged back.
+          c.new.ensures
+          ∙ sym (none_temporary at c.args.live.now (whole_now c.args.live.now) judged
+          (sym (ap (list_any has_temps) jobs) ∙ sym c.any_temporary.ensures ∙ c.if-not-any_temporary.true));
+    }
 
 pub returns-then-holds_back : goal.returns-then-holds_back
-returns-then-holds_back c = λ at judged back.
-    c.new-then-holds_back.ensures
-    ∙ sym (none_while_held at c.args.live.now c.args.wholes.now judged (sym back ∙ sym c.holds_back.ensures.value ∙ c.if-holds_back.true))
+returns-then-holds_back c =
+    record {
+      wholes = whole_now c.args.live.now;
+      whole = λ sorted. refl;
+      spent = λ at judged back.
+          c.new-then-holds_back.ensures
+          ∙ sym (none_while_held at c.args.live.now (whole_now c.args.live.now) judged (sym back ∙ sym c.holds_back.ensures.value ∙ c.if-holds_back.true));
+    }
 
 pub returns-then-not-are_done_with : goal.returns-then-not-are_done_with
-returns-then-not-are_done_with c = λ at judged back.
+returns-then-not-are_done_with c =
     let states : c.as_slice-2.result.now ≡ c.args.live.now.plan.states = c.as_slice-2.ensures ∙ ap (λ (p : Told). p.states) c.as_plan.ensures.value in
-    c.new-then-not-are_done_with.ensures
-    ∙ sym (none_undone at c.args.live.now c.args.wholes.now judged
-    (sym (ap (list_all is_done_with) states) ∙ sym c.are_done_with.ensures ∙ c.if-not-are_done_with.true))
+    record {
+      wholes = whole_now c.args.live.now;
+      whole = λ sorted. refl;
+      spent = λ at judged back.
+          c.new-then-not-are_done_with.ensures
+          ∙ sym (none_undone at c.args.live.now (whole_now c.args.live.now) judged
+          (sym (ap (list_all is_done_with) states) ∙ sym c.are_done_with.ensures ∙ c.if-not-are_done_with.true));
+    }
 
 pub returns : goal.returns
-returns c = λ at judged back.
+returns c =
     let states : c.as_slice-2.result.now ≡ c.args.live.now.plan.states = c.as_slice-2.ensures ∙ ap (λ (p : Told). p.states) c.as_plan.ensures.value in
-    c.in_ok-found.ensures
-    (sym (ap (list_all is_done_with) states) ∙ sym c.are_done_with.ensures ∙ c.if-not-are_done_with.false)
-    (sym c.holds_back.ensures.value ∙ c.if-holds_back.false)
-    at judged back
+    record {
+      wholes = whole_now c.args.live.now;
+      whole = λ sorted. refl;
+      spent =
+          c.in_ok-found.ensures c.requires
+          (sym (ap (list_all is_done_with) states) ∙ sym c.are_done_with.ensures ∙ c.if-not-are_done_with.false)
+          (sym c.holds_back.ensures.value ∙ c.if-holds_back.false)
+          (whole_now c.args.live.now);
+    }

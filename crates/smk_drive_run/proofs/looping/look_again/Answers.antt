@@ -3,6 +3,9 @@ use Rattle.smk_drive_run.proofs.Counts.{counts_then, kept_within}
 use Rattle.smk_drive_run.proofs.Steps.{held_counts, stays_and_ends, stays_and_steps, stays_looked, stays_ready}
 use Rattle.smk_drive_run.proofs.looping.look_again.Goals as goal
 
+pub next-requires : goal.next-requires
+next-requires g c = (stays_ready c.spend_at_rest.ensures c.requires.ready).live
+
 pub begin-requires-clause-ready : goal.begin-requires-clause-ready
 begin-requires-clause-ready g c = λ κs within. stays_ready (stays_looked c.spend_at_rest.ensures c.next.ensures.held) c.requires.ready
 

@@ -3,6 +3,9 @@ use Rattle.smk_drive_run.proofs.Counts.{kept_within}
 use Rattle.smk_drive_run.proofs.Steps.{held_counts, held_ready, stays_and_steps, stays_held}
 use Rattle.smk_drive_run.proofs.looping.step.Goals as goal
 
+pub next-requires : goal.next-requires
+next-requires g c = c.requires.ready.live
+
 pub begin-requires-clause-ready : goal.begin-requires-clause-ready
 begin-requires-clause-ready g c = λ κs within. held_ready g.W.Files.act c.next.ensures.held c.requires.ready
 

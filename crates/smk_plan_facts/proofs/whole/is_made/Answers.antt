@@ -14,5 +14,6 @@ pub returns-in-Some : goal.returns-in-Some
 returns-in-Some g c = λ sorted.
     let q = c.args.path.now in
     let ds = c.args.directories.now in
-    c.is_member.ensures (each_found (IsSorted (g.T.Told.seen c.args.told.now)) (λ (d : Directory). is_under q d.path) ds c.in-Some.directory.now sorted (sym c.in-Some.ensures))
+    c.is_member.ensures
+    (λ told. each_found (IsSorted (g.T.Told.seen c.args.told.now)) (λ (d : Directory). is_under q d.path) ds c.in-Some.directory.now (sorted told) (sym c.in-Some.ensures))
     ∙ ap (is_made_by (g.T.Told.seen c.args.told.now) q (find (λ (d : Directory). bytes_eq d.path q) ds)) c.in-Some.ensures

@@ -3,4 +3,19 @@ use Rattle.smk_plan_live.proofs.new.over.Goals as goal
 pub returns-in-Ok-clause-live : goal.returns-in-Ok-clause-live
 returns-in-Ok-clause-live g c =
     let t = c.in-Ok.ensures.told in
-    record { sound = c.requires; texts = t.texts; each = t.each; targets = t.targets; facts = λ served. t.facts; reasons = t.reasons; now = t.now c.requires }
+    record {
+      sound = c.requires.sound;
+      texts = t.kept.texts;
+      each = t.each;
+      targets = t.targets;
+      facts = λ served. t.kept.facts;
+      reasons = t.kept.reasons;
+      now = t.now c.requires.sound c.requires.named;
+      table = t.kept.table;
+      flags = λ served. t.kept.flags;
+      readers = t.kept.readers c.requires.sound;
+      named = c.requires.named;
+    }
+
+pub returns-in-Err-clause-refused : goal.returns-in-Err-clause-refused
+returns-in-Err-clause-refused g c = λ other. c.in-Err.ensures.refused other c.requires.sound c.requires.named

@@ -1,42 +1,41 @@
-use Rattle.std.proofs.Common.{sym, ◌∙◌}
-use Rattle.smk_plan_states.proofs.Tabled.{table_at}
+use Rattle.std.proofs.Common.{List, refl, sym, ap, subst, ◌∙◌}
+use Rattle.smk_trigger.specs.declared.reason.State.{State}
+use Rattle.smk_plan_states.specs.Judged.{AreStates, any_held_back}
 use Rattle.smk_plan_live.specs.Lives.{progress_of, judging_of}
-use Rattle.smk_plan_live.proofs.Judging.{counted_now, agree_now, kept_are, wholes_are, judged_now, told_now, refused_now}
+use Rattle.smk_plan_live.proofs.Judging.{counted_now, agree_now, given_now, told_now, refused_now}
 use Rattle.smk_plan_live.proofs.telling.tell_by.Goals as goal
 
 pub plan_now-requires : goal.plan_now-requires
-plan_now-requires c = record { table = (c.args.ready.wholes, c.in-Ok.ensures) }
+plan_now-requires c = record { table = c.requires.table }
 
-pub returns-clause-now : goal.returns-clause-now
-returns-clause-now c = λ facts judged image agrees.
+pub returns-in-Ok-holds_back-clause-now : goal.returns-in-Ok-holds_back-clause-now
+returns-in-Ok-holds_back-clause-now c = λ given image agrees.
     let b = c.args.base.now in
     let s = c.args.settings.now in
-    let r = c.args.ready in
     let F = c.told_is_so.ensures.facts in
     let W = c.told_is_so.ensures.wholes in
-    let counted = counted_now F W b s image agrees in
-    let agree = agree_now F W b s image agrees in
-    let at = judging_of counted s b in
-    let told = table_at at b.jobs r.wholes c.in-Ok.table c.in-Ok.ensures (wholes_are F W b s image agrees r.wholes c.requires.wholes) agrees.served in
-    let right = judged_now F W b s image agrees facts c.args.reasons c.args.forced judged r.running c.requires.running in
-    let made = c.in-Ok-plan_now.ensures.made counted (progress_of b) agree (record { begun = sym c.requires.ran; told = told; right = right }) in
+    let so =
+    given_now F W b s image agrees c.args.lent.now c.args.makers.now c.args.suspects.now (given agrees.served)
+    (record { outputs = c.as_slice.result; makers = c.args.makers; reasons = c.as_slice-2.result; forced = c.as_slice-3.result; running = c.as_slice-4.result })
+    c.as_slice.ensures.value refl c.as_slice-2.ensures.value c.as_slice-3.ensures.value c.as_slice-4.ensures c.args.begun.now c.requires.begun in
+    let at = judging_of (counted_now F W b s image agrees) s b in
+    let made = c.in-Ok.ensures.made (counted_now F W b s image agrees) (progress_of b) (agree_now F W b s image agrees) so in
     told_now F W b s image agrees _ _ (record {
       made = made;
-      back = c.in-Ok-holds_back.ensures at b.jobs told
-          (c.requires.kept ∙ kept_are b image s) made.states;
+      back = c.in-Ok-holds_back.ensures at b.jobs (record { told = c.requires.table; served = agrees.served }) so.right
+          (subst (λ (states : List State). AreStates at b.jobs states) (sym c.as_slice-in-Ok.ensures) made.states)
+          ∙ ap (any_held_back at b.jobs) c.as_slice-in-Ok.ensures;
     })
 
-pub returns-in-Err-plan_now-clause-refused : goal.returns-in-Err-plan_now-clause-refused
-returns-in-Err-plan_now-clause-refused c = λ other facts judged image agrees.
+pub returns-in-Err-clause-refused : goal.returns-in-Err-clause-refused
+returns-in-Err-clause-refused c = λ other given image agrees.
     let b = c.args.base.now in
     let s = c.args.settings.now in
-    let r = c.args.ready in
     let F = c.told_is_so.ensures.facts in
     let W = c.told_is_so.ensures.wholes in
-    let counted = counted_now F W b s image agrees in
-    let at = judging_of counted s b in
-    let told = table_at at b.jobs r.wholes c.in-Ok.table c.in-Ok.ensures (wholes_are F W b s image agrees r.wholes c.requires.wholes) agrees.served in
-    let right = judged_now F W b s image agrees facts c.args.reasons c.args.forced judged r.running c.requires.running in
+    let so =
+    given_now F W b s image agrees c.args.lent.now c.args.makers.now c.args.suspects.now (given agrees.served)
+    (record { outputs = c.as_slice.result; makers = c.args.makers; reasons = c.as_slice-2.result; forced = c.as_slice-3.result; running = c.as_slice-4.result })
+    c.as_slice.ensures.value refl c.as_slice-2.ensures.value c.as_slice-3.ensures.value c.as_slice-4.ensures c.args.begun.now c.requires.begun in
     refused_now F W b s image agrees _
-    (c.in-Err-plan_now.ensures.refused other counted (progress_of b) (agree_now F W b s image agrees)
-    (record { begun = sym c.requires.ran; told = told; right = right }))
+    (c.in-Err.ensures.refused other (counted_now F W b s image agrees) (progress_of b) (agree_now F W b s image agrees) so)

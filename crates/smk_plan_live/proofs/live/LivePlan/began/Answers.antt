@@ -5,7 +5,7 @@ use Rattle.std.proofs.lemmas.Result.{IfErr-weaker}
 use Rattle.smk_plan_live.specs.declared.phase.Phase.TheVariants.{Running}
 use Rattle.smk_plan_live.specs.Carried.{advanced, begun_entries, gone_sights}
 use Rattle.smk_plan_live.specs.Lives.{IsRefusedNow}
-use Rattle.smk_plan_live.proofs.Installed.{begun_settled}
+use Rattle.smk_plan_live.proofs.Installed.{begun_changed}
 use Rattle.smk_plan_live.proofs.live.LivePlan.began.Goals as goal
 
 pub advance-requires : goal.advance-requires
@@ -18,7 +18,7 @@ advance-requires c =
         c.requires.live,
         (
           slice_get_within p.base.jobs.jobs c.args.job x.job x.is,
-          begun_settled p c.requires.live c.args.job s.state x.job x.is x.named c.requires.waiting s.rows.entries s.rows.sights,
+          begun_changed p c.requires.live c.args.job s.state x.job x.is x.named c.requires.waiting s.rows.entries s.rows.sights,
         ),
       ),
     )

@@ -4,7 +4,7 @@ use Rattle.smk_plan_live.specs.Carried.{advanced}
 use Rattle.smk_plan_live.specs.Lives.{IsRefusedNow}
 use Rattle.std.proofs.lemmas.Option.{slice_get_within}
 use Rattle.smk_plan_live.specs.declared.phase.Phase.TheVariants.{Running, Closed}
-use Rattle.smk_plan_live.proofs.Installed.{closed_settled}
+use Rattle.smk_plan_live.proofs.Installed.{closed_changed}
 use Rattle.smk_plan_live.proofs.live.LivePlan.closed.Goals as goal
 
 pub advance-requires : goal.advance-requires
@@ -17,7 +17,7 @@ advance-requires g c =
         live,
         (
           subst (λ m. c.args.job < m) live.sound.phases (slice_get_within p.base.phases c.args.job Running runs),
-          closed_settled p live c.args.job runs c.in-Ok.rows.entries c.in-Ok.rows.sights,
+          closed_changed p live c.args.job runs c.in-Ok.rows.entries c.in-Ok.rows.sights,
         ),
       ),
     )

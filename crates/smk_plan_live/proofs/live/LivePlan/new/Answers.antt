@@ -2,8 +2,14 @@ use Rattle.std.proofs.Common.{sym, subst}
 use Rattle.std.proofs.lemmas.Result.{IfOk-weaker, IfErr-weaker}
 use Rattle.smk_plan_live.specs.Lives.{IsAgreed}
 use Rattle.smk_plan_live.specs.Changes.{IsFirst}
-use Rattle.smk_plan_live.proofs.First.{agrees_first, refused_first}
+use Rattle.smk_plan_live.proofs.First.{agrees_first, first_named, refused_first}
 use Rattle.smk_plan_live.proofs.live.LivePlan.new.Goals as goal
+
+pub over-requires : goal.over-requires
+over-requires g c = (
+  c.type_bounds.sync-Rt,
+  (c.in-Ok.ensures.sound, first_named c.in-Ok.base c.args.jobs c.args.store c.args.seen c.in-Ok.ensures.first),
+)
 
 pub returns-in-Ok-clause-first : goal.returns-in-Ok-clause-first
 returns-in-Ok-clause-first g c =

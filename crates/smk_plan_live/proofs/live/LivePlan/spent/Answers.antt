@@ -4,8 +4,8 @@ use Rattle.std.proofs.lemmas.Result.{IfErr-weaker}
 use Rattle.smk_plan_live.specs.declared.base.Base.{Base}
 use Rattle.smk_plan_live.specs.Lives.{IsRefusedNow}
 use Rattle.smk_plan_live.specs.Carried.{sighted}
-use Rattle.smk_plan_live.specs.Steps.{IsSettledAt}
-use Rattle.smk_plan_live.proofs.Installed.{loss_spent, sighted_settled}
+use Rattle.smk_plan_live.specs.Steps.{IsChanged}
+use Rattle.smk_plan_live.proofs.Installed.{loss_spent, sighted_changed}
 use Rattle.smk_plan_live.proofs.live.LivePlan.spent.Goals as goal
 
 pub see-requires : goal.see-requires
@@ -16,8 +16,8 @@ see-requires c =
     record {
       live = c.requires.live;
       within = subst (λ m. m < length p.base.jobs.jobs) (sym x.number) (slice_get_within p.base.jobs.jobs c.in-Some.site.now.job x.job x.is);
-      settled = subst (λ m. IsSettledAt p.settings (sighted m (Some l.sights) p.base) m l.forced p.facts.items p.reasons.items) (sym x.number)
-          (sighted_settled p c.requires.live c.in-Some.site.now.job x.facts x.has l.forced x.forced (Some l.sights));
+      changed = subst (λ m. IsChanged p.settings p.base (sighted m (Some l.sights) p.base) m l.forced) (sym x.number)
+          (sighted_changed p c.requires.live c.in-Some.site.now.job x.facts x.has l.forced x.forced (Some l.sights));
     }
 
 pub returns-in-Ok-clause-refused : goal.returns-in-Ok-clause-refused

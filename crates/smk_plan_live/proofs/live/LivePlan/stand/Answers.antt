@@ -1,7 +1,7 @@
 use Rattle.std.proofs.Common.{subst, ◌∙◌}
 use Rattle.smk_plan_live.specs.Carried.{with_seen}
 use Rattle.smk_plan_live.specs.Lives.{IsLive, IsRefusedNow}
-use Rattle.smk_plan_live.proofs.Grown.{seen_sound}
+use Rattle.smk_plan_live.proofs.Grown.{seen_named, seen_sound}
 use Rattle.smk_plan_live.proofs.live.LivePlan.stand.Goals as goal
 
 pub returns-in-Err-clause-live : goal.returns-in-Err-clause-live
@@ -12,10 +12,23 @@ returns-in-Err-clause-live g c =
 pub returns-in-Err-clause-refused : goal.returns-in-Err-clause-refused
 returns-in-Err-clause-refused g c = λ other.
     subst (λ s. IsRefusedNow c.args.self.now.settings (with_seen s c.args.base) c.in-Err.fault) c.swap.ensures.x_after
-    (c.in-Err.ensures.refused other (seen_sound c.args.base c.swap.new.x c.requires.sound))
+    (c.in-Err.ensures.refused other (seen_sound c.args.base c.swap.new.x c.requires.sound) (seen_named c.args.base c.swap.new.x c.requires.named))
 
 pub returns-in-Ok-clause-live : goal.returns-in-Ok-clause-live
 returns-in-Ok-clause-live g c =
     let t = c.in-Ok.ensures.told in
     let sound = seen_sound c.args.base c.swap.new.x c.requires.sound in
-    record { sound = sound; texts = t.texts; each = t.each; targets = t.targets; facts = λ served. t.facts; reasons = t.reasons; now = t.now sound }
+    let named = seen_named c.args.base c.swap.new.x c.requires.named in
+    record {
+      sound = sound;
+      texts = t.kept.texts;
+      each = t.each;
+      targets = t.targets;
+      facts = λ served. t.kept.facts;
+      reasons = t.kept.reasons;
+      now = t.now sound named;
+      table = t.kept.table;
+      flags = λ served. t.kept.flags;
+      readers = t.kept.readers sound;
+      named = named;
+    }

@@ -1,0 +1,44 @@
+use Rattle.std.proofs.Common.{map, ap, ◌∙◌}
+use Rattle.std.proofs.lemmas.Result.{IfOk-weaker, IfErr-weaker}
+use Rattle.smk_trigger.specs.declared.facts.JobFacts.{JobFacts}
+use Rattle.smk_trigger.specs.Reasons.{reasons_of}
+use Rattle.smk_plan_live.specs.Lives.{AreLentNow}
+use Rattle.smk_plan_live.proofs.new.tell_kept.Goals as goal
+
+pub returns-in-Ok-clause-now : goal.returns-in-Ok-clause-now
+returns-in-Ok-clause-now c =
+    let k = c.requires in
+    IfOk-weaker c.tell.result _ _
+    (λ made told. λ sound named.
+    told (λ served.
+    coe 1 0 (i. AreLentNow c.args.settings.now c.args.base.now c.in-Ok.rows (c.as_slice-makers.ensures i) (c.as_slice-suspects.ensures i))
+    (record {
+      sound = sound;
+      named = named;
+      texts = k.texts;
+      outputs = c.in-Ok.ensures.outputs ∙ c.as_slice-outputs.ensures ∙ k.flags.outputs;
+      whole = k.flags.makers;
+      reasons = c.in-Ok.ensures.reasons ∙ c.as_slice-reasons.ensures.value ∙ k.reasons ∙ ap (map reasons_of) k.facts;
+      forced = c.in-Ok.ensures.forced ∙ ap (map (λ (f : JobFacts). f.forced)) (c.as_slice-facts.ensures.value ∙ k.facts);
+      doubted = k.flags.suspects;
+    })))
+    c.tell.ensures.now
+
+pub returns-in-Ok-clause-refused : goal.returns-in-Ok-clause-refused
+returns-in-Ok-clause-refused c =
+    let k = c.requires in
+    IfErr-weaker c.tell.result _ _
+    (λ fault told. λ other sound named.
+    told other (λ served.
+    coe 1 0 (i. AreLentNow c.args.settings.now c.args.base.now c.in-Ok.rows (c.as_slice-makers.ensures i) (c.as_slice-suspects.ensures i))
+    (record {
+      sound = sound;
+      named = named;
+      texts = k.texts;
+      outputs = c.in-Ok.ensures.outputs ∙ c.as_slice-outputs.ensures ∙ k.flags.outputs;
+      whole = k.flags.makers;
+      reasons = c.in-Ok.ensures.reasons ∙ c.as_slice-reasons.ensures.value ∙ k.reasons ∙ ap (map reasons_of) k.facts;
+      forced = c.in-Ok.ensures.forced ∙ ap (map (λ (f : JobFacts). f.forced)) (c.as_slice-facts.ensures.value ∙ k.facts);
+      doubted = k.flags.suspects;
+    })))
+    c.tell.ensures.refused

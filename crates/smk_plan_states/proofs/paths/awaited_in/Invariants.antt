@@ -1,8 +1,0 @@
-use Rattle.std.proofs.Common.{◌≡◌, take}
-use Rattle.std.specs.List.{flat_map}
-use Rattle.smk_plan_states.specs.Keys.{at_key}
-use Rattle.smk_plan_states.specs.Paths.{awaits_told}
-use Rattle.smk_plan_states.proofs.paths.awaited_in.Given as goal
-
-abbrev pub invariant-loop-part : goal.invariant-loop-part
-invariant-loop-part l = l.found ≡ flat_map (awaits_told (λ q. at_key l.sites q)) (take l.part-index l.parts)
