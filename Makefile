@@ -6,13 +6,14 @@
 # make edits      the must-fail edits that the gate leaves out: all, or those of NAMES="NAME .."
 
 PREFIX ?= /usr/local
-# How many crates are proved at a time; each takes a processor and up to 2 GB.
-JOBS ?= 4
+# How many crates are proved at a time, each with a processor and up to 2 GB; where it is empty, as many as there are processors and memory for.
+JOBS ?=
 
 .PHONY: program demo install dist test edits
 
 program:
-	cd crates/smk && rt all check --jobs $(JOBS) && rt run -- --version
+	RT_JOBS=$(JOBS) tools/build
+	crates/smk/out/smk --version
 
 demo:
 	tools/demo

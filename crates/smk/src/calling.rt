@@ -3,7 +3,7 @@
 ghost use Rattle.std.specs.Prelude.{◌≡◌, [], map};
 
 use smk_base::OutOfMemory;
-use smk_trial::{Fault, smk};
+use smk_cli_headline::{Fault, smk};
 use smk_world_real::{RealSink, RealWork};
 use std::alloc::Global;
 use std::process::Processes;

@@ -1,9 +1,8 @@
 -- A chosen candidate is one of the viable ones, and stands at its rule's number.
 use Rattle.std.proofs.Common.{◌≡◌, ℕ, ◌+◌, Bool, true, false, cond, List, [], ◌∷◌, Option, Some, None, refl, ap, subst, filter, true≢false}
 use Rattle.std.specs.Prelude.{slice_get}
-use Rattle.std.specs.List.{find, enumerate_from, list_all, AllByRecursion}
+use Rattle.std.specs.List.{find, enumerate_from, AllByRecursion}
 use Rattle.smk_world.specs.Trees.{Path}
-use Rattle.smk_flow.specs.declared.rule.RulePart.{RulePart}
 use Rattle.smk_flow.specs.Flows.{Flow, Candidate}
 use Rattle.smk_choose.specs.Choose.{Sources, Choice, Lack, Source, Make, Nothing, Ambiguous, candidates, is_viable, viable, lack_of_first, leader, choice, choose}
 use Rattle.smk_choose.proofs.Listed.{Placed, all_filter, candidates_placed}

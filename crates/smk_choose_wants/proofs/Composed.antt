@@ -1,6 +1,6 @@
 -- What a job wants, part by part.
 use Rattle.std.proofs.Common.{◌≡◌, ℕ, ◌+◌, ◌&&◌, Bool, true, false, cond, List, [], ◌∷◌, ◌++◌, ◌<◌, get_or, length, take, map, filter, Option, Some, None, option_map, refl, sym, ap, ap₂, ◌∙◌}
-use Rattle.std.specs.List.{flat_map, filter_map, cons_option, list_all, enumerate_from}
+use Rattle.std.specs.List.{flat_map, filter_map, cons_option, list_all}
 use Rattle.std.proofs.lemmas.List.{map-append, append_assoc, take_more}
 use Rattle.smk_base.specs.declared.tree.Pair.{Pair}
 use Rattle.smk_base.specs.Path.{is_path}
@@ -15,9 +15,9 @@ use Rattle.smk_flow.specs.declared.job.Job.{Job}
 use Rattle.smk_flow.specs.Jobs.{declared_job}
 use Rattle.smk_flow.specs.declared.rule.InPart.{InPart}
 use Rattle.smk_flow.specs.declared.rule.GatherPart.{GatherPart}
-use Rattle.smk_flow.specs.Flows.{Flow, Candidate, first_wants, gather_at, gathers_from, folders_of, gathered_folders, declared_inputs, folder_from}
+use Rattle.smk_flow.specs.Flows.{Flow, Candidate, first_wants, gather_at, gathers_from, folders_of, gathered_folders, declared_inputs}
 use Rattle.smk_choose.specs.Readings.{filled_by}
-use Rattle.smk_chain.specs.Derive.{Listings, gathered_in, gathered_files, gathered, wants, item_paths, items, job}
+use Rattle.smk_chain.specs.Derive.{Listings, gathered_in, gathered_files, wants, item_paths, items, job}
 use Rattle.smk_choose_wants.specs.declared.wanted.Want.{Want}
 use Rattle.smk_choose_wants.specs.declared.wanted.Want.TheVariants as want
 use Rattle.smk_choose_wants.specs.Wants.{want_of, gathered_one, wanted_by, folder_in, item_with}

@@ -1,5 +1,5 @@
 -- Listings that are found by their places.
-use Rattle.std.proofs.Common.{◌≡◌, ℕ, zero, suc, ◌+◌, Bool, true, false, cond, List, [], ◌∷◌, drop, Option, Some, None, option_map, slice_get, refl, sym, ap, ◌∙◌, bytes_eq}
+use Rattle.std.proofs.Common.{◌≡◌, ℕ, zero, suc, ◌+◌, Bool, true, false, cond, [], ◌∷◌, drop, Option, Some, slice_get, sym, ap, ◌∙◌, bytes_eq}
 use Rattle.std.specs.List.{find}
 use Rattle.smk_world.specs.Trees.{Path}
 use Rattle.smk_chain.specs.declared.jobs.Known.{Known}

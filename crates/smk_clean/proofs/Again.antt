@@ -188,7 +188,7 @@ module _ (o : Outside) (words : RunWords) (w v : World) (formed : IsFormed v) (l
         goes settled (NoMemory x is unchanged unput) none = same_starts_none unchanged
         goes settled (Made x duties for meant made) none = turns_start_none _ made.turns none made.ran
 
-  starts_nothing :
+  pub starts_nothing :
       ReadsRecords o.read → (answer : Result (Unit {0}) Fault) (old new : Device) (p q : Sunk) → old.world ≡ Some v →
       (h : HasRun o.act o.read words v answer old new p q) → StartsNothing h
   starts_nothing reads answer old new p q at (Unheeded free went) =

@@ -9,7 +9,7 @@ use Rattle.smk_words_reading.specs.declared.asked.RunWords.{RunWords}
 use Rattle.smk_cli_entry.specs.declared.asking.Asked.{Asked}
 use Rattle.smk_cli_entry.specs.Faults.{is_told, is_device, is_sink}
 use Rattle.smk_plan_preview.specs.declared.previewing.Previewed.{Previewed}
-use Rattle.smk_cli_calls.specs.Serving.{IsWant, HasOnlyLooked, HasWorked, Went, Refused, Stopped, Worked, Drove, HasListed, NotListed, Listed}
+use Rattle.smk_cli_calls.specs.Serving.{IsWant, HasOnlyLooked, Went, Refused, Stopped, Worked, Drove, HasListed, NotListed, Listed}
 use Rattle.smk_cli_calls.specs.Serving as listing
 
 -- ## Kinds of faults

@@ -1,5 +1,5 @@
 -- The first of some files, found one after another.
-use Rattle.std.proofs.Common.{◌≡◌, Bool, true, false, List, [], ◌∷◌, ◌++◌, Option, Some, None, Result, Ok, Err, refl, subst}
+use Rattle.std.proofs.Common.{◌≡◌, Bool, true, false, List, [], ◌∷◌, ◌++◌, Option, Some, None, Result, Ok, refl, subst}
 use Rattle.std.specs.Prelude.{if◌then◌else◌}
 use Rattle.smk_world.specs.declared.event.Stat.{Stat}
 use Rattle.smk_world.specs.declared.event.Stat.TheVariants.{Nothing, File, Folder}

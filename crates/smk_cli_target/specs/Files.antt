@@ -7,7 +7,6 @@ use Rattle.smk_flow.specs.Flows.{Flow}
 use Rattle.smk_flow.specs.Targets.{words_of, all_paths, first_bad}
 use Rattle.smk_format.specs.Commands.{missing, command}
 use Rattle.smk_record.specs.Reading.{record_in}
-use Rattle.smk_store.specs.Images.{Image}
 use Rattle.smk_store.specs.Images as images
 use Rattle.smk_store.specs.Soundness.{Outside}
 use Rattle.smk_chain.specs.Mean.{Setting, setting_of}

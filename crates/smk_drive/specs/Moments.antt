@@ -25,7 +25,7 @@ use Rattle.smk_flow.specs.Flows.{Flow}
 use Rattle.smk_record.specs.declared.record.Stamp.{Stamp}
 use Rattle.smk_record.specs.declared.record.Record.{Record}
 use Rattle.smk_record.specs.Records.{serials}
-use Rattle.smk_store.specs.Images.{Image, record_at, readable, tree_now}
+use Rattle.smk_store.specs.Images.{Image, record_at, tree_now}
 use Rattle.smk_store.specs.Images as images
 use Rattle.smk_store.specs.Trust.{stamp_now, made_at}
 use Rattle.smk_chain.specs.Derive.{Listings}

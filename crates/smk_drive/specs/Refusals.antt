@@ -2,7 +2,6 @@
 use Rattle.std.specs.Prelude.{◌≡◌, ◌≢◌, ◌<◌, ℕ, Bool, ◌&&◌, not, List, [], ◌∷◌, ◌++◌, map, filter, length, ◌^◌, ◌==◌, nat_lt, bytes_eq, if◌then◌else◌, Option, Some, None, Contains, IsTrue}
 use Rattle.std.specs.List.{list_any, flat_map}
 use Rattle.smk_base.specs.declared.tree.Amount.{Amount}
-use Rattle.smk_base.specs.Path.{is_at_or_under}
 use Rattle.smk_world.specs.World.{World, out_paths}
 use Rattle.smk_world.specs.Trees.{Path, among, outs_of}
 use Rattle.smk_world.specs.declared.recipe.Out.{Out}
@@ -12,7 +11,7 @@ use Rattle.smk_flow.specs.declared.job.Job.{Job}
 use Rattle.smk_flow.specs.Flows.{Flow, rule_name}
 use Rattle.smk_record.specs.Records.{core}
 use Rattle.smk_record.specs.Spelling.{spelling}
-use Rattle.smk_store.specs.Images.{Image, Content, file_at}
+use Rattle.smk_store.specs.Images.{Image}
 use Rattle.smk_chain.specs.Derive.{Listings, Refused, Refusal, TooManyPaths, Deep, NoRule, NoInput, TwoJobs, MissingMember, NoCommand, Clash, derivation, clashes, spots, jobs, sources_of}
 use Rattle.smk_trigger.specs.declared.reason.State.{State}
 use Rattle.smk_trigger.specs.JobStates.{is_to_run, is_open}

@@ -1,5 +1,5 @@
 -- What a run has done when it ends.
-use Rattle.std.specs.Prelude.{◌≡◌, ◌⊎◌, ℕ, Bool, true, false, List, [], ◌∷◌, ◌++◌, Option, Some, None, Result, Ok, Err, IsTrue, is_ok}
+use Rattle.std.specs.Prelude.{◌≡◌, ◌⊎◌, Bool, true, false, List, [], ◌∷◌, ◌++◌, Option, Some, None, Result, Ok, Err, IsTrue, is_ok}
 use Rattle.std.specs.List.{list_all}
 use Rattle.smk_base.specs.Place.{mark_place, note_place}
 use Rattle.smk_world.specs.declared.event.Event.{Event}

@@ -1,5 +1,5 @@
 -- The plans of a chain, kept.
-use Rattle.std.proofs.Common.{◌≡◌, ◌≢◌, ◌⊎◌, inl, inr, ℕ, true, false, List, [], ◌∷◌, ◌++◌, map, refl, sym, ap, subst, ◌∙◌, arith, Option, Some, None, Result, Ok, Err, true≢false}
+use Rattle.std.proofs.Common.{◌≡◌, ◌≢◌, ◌⊎◌, ℕ, true, false, List, [], ◌∷◌, ◌++◌, map, refl, sym, ap, subst, ◌∙◌, arith, Option, Some, None, Result, Ok, Err, true≢false}
 use Rattle.std.specs.Prelude.{IfOk, IfErr, IsErrAnd}
 use Rattle.std.specs.List.{zip}
 use Rattle.smk_flow.specs.Flows.{Flow}
@@ -9,11 +9,9 @@ use Rattle.smk_store.specs.Images.{Image}
 use Rattle.smk_store.specs.Stores.{Known}
 use Rattle.smk_chain.specs.declared.jobs.Jobs.{Jobs}
 use Rattle.smk_chain.specs.Derive.{Listings, Derived, Refused, Refusal, derivation}
-use Rattle.smk_trigger.specs.declared.reason.State.{State}
 use Rattle.smk_pick.specs.declared.settings.Settings.{Settings}
-use Rattle.smk_plan.specs.declared.plan.Plan.{Plan as Told}
 use Rattle.smk_plan.specs.declared.seen.Sight.{Sight}
-use Rattle.smk_plan.specs.States.{Plan, Progress, IsPlan, nothing_done, new_listings}
+use Rattle.smk_plan.specs.States.{Plan, IsPlan, nothing_done, new_listings}
 use Rattle.smk_format.specs.Refused.{command_fault}
 use Rattle.smk_report.specs.declared.fault.Fault.{Fault}
 use Rattle.smk_report.specs.declared.fault.Fault.TheVariants as fault
@@ -27,7 +25,6 @@ use Rattle.smk_plan_table.specs.Plans.{HasMade, HasMadeAt}
 use Rattle.smk_plan_preview.specs.Faults.{device_failed, is_sink, is_told}
 use Rattle.smk_plan_preview.specs.Previewing.{rules_for}
 use Rattle.smk_plan_preview.specs.Rounds.{AreReady, IsRound, Leads}
-use Rattle.smk_plan_preview.specs.Steps.{Plans}
 use Rattle.smk_plan_preview.proofs.Rounded.{check_quiet, checked_told, planned_told}
 use Rattle.smk_plan_preview.proofs.Chains.{last_round, leads_next, round_refused}
 use Rattle.smk_plan_preview.proofs.LookedAt.{err_is}
@@ -37,7 +34,7 @@ use Rattle.smk_plan_live.specs.declared.phase.Phase.TheVariants.{Waiting}
 use Rattle.smk_plan_live.specs.Changes.{IsFirst}
 use Rattle.smk_plan_live.specs.Lives.{IsLive, IsAgreed, progress_of}
 use Rattle.smk_plan_live.specs.Phases.{begun_in, children_in, named}
-use Rattle.smk_drive_first.specs.Keeping.{plan_in, as_told, IsFresh, HasBegun, HasKept, HasKeptLast, NoneRefused}
+use Rattle.smk_drive_first.specs.Keeping.{plan_in, IsFresh, HasBegun, HasKept, HasKeptLast, NoneRefused}
 
 -- ## A plan begins
 

@@ -1,22 +1,22 @@
 -- What a run has done as it opened.
 use Rattle.std.proofs.Common.{◌≡◌, ◌≢◌, ◌⊎◌, inl, inr, ℕ, Bool, true, false, List, [], ◌∷◌, ◌++◌, bytes_eq, refl, sym, ap, subst, ◌∙◌, Option, Some, None, Result, Ok, Err, true≢false, append-nil}
-use Rattle.std.specs.Prelude.{IfOk, IfErr, if◌then◌else◌, ◌&&◌, ◌||◌, IsTrue}
+use Rattle.std.specs.Prelude.{IfOk, IfErr, if◌then◌else◌, ◌&&◌, ◌||◌}
 use Rattle.smk_base.specs.Place.{mark_place, note_place}
 use Rattle.smk_base.proofs.Places.{same_place}
 use Rattle.smk_base.proofs.Under.{or_first, or_second}
 use Rattle.smk_world.specs.declared.event.Call.{Call}
-use Rattle.smk_world.specs.declared.event.Call.TheVariants.{Looked, ReadFile, ReadFolder, Written, Created, Removed, MadeParents, Settled, Protected, Started, Waited}
+use Rattle.smk_world.specs.declared.event.Call.TheVariants.{Settled, Protected}
 use Rattle.smk_world.specs.declared.event.Event.{Event}
 use Rattle.smk_world.specs.declared.event.Node.{Node}
 use Rattle.smk_world.specs.declared.event.NodeState.{NodeState}
 use Rattle.smk_world.specs.declared.event.NodeState.TheVariants.{Owned, Known as Reads}
 use Rattle.smk_world.specs.World.{World, run, after, reading, firm, is_within, is_above, reads_folder}
-use Rattle.smk_world.specs.Calls.{Lets, failed}
+use Rattle.smk_world.specs.Calls.{Lets}
 use Rattle.smk_world.specs.Devices.{Device, HasActed, HasLooked, WhereTold, AreLooks}
-use Rattle.smk_world.specs.Requests.{HasDone, IsCutShort, request}
+use Rattle.smk_world.specs.Requests.{HasDone}
 use Rattle.smk_world.specs.Requests.Request.{Settle}
 use Rattle.smk_world.specs.Runs.{Follows}
-use Rattle.smk_world.specs.Trees.{Path, Act, IsIn, among}
+use Rattle.smk_world.specs.Trees.{Path, Act, IsIn}
 use Rattle.smk_world.proofs.Devices.{acted_as, acted_then}
 use Rattle.smk_laws_job.proofs.Abandoning.{in_first, in_second, settled_call}
 use Rattle.smk_laws_plan.proofs.CurrentLists.{in_flat}

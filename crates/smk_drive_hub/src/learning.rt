@@ -1,8 +1,10 @@
 //! What is refused of a plan, as the fault of a run.
 
-ghost use Rattle.std.specs.Prelude.{◌≡◌, ◌≢◌, ◌⊎◌, [], false, map, None, Some, zip, IfErr, IfOk, OnOk};
+ghost use Rattle.std.specs.Prelude.{◌≡◌, ◌≢◌, ◌⊎◌, [], false, true, map, None, Some, zip, IfErr, IfOk, OnOk};
+ghost use Rattle.std.specs.List.{list_all};
 ghost use Rattle.smk_report.specs.declared.fault.Fault.TheVariants as fault;
 ghost use Rattle.smk_plan_live.specs.declared.base.Base.{Base};
+ghost use Rattle.smk_plan_live.specs.Commands.{has_command};
 ghost use Rattle.smk_plan_live.specs.Lives.{IsLive, IsRefusedNow};
 ghost use Rattle.smk_drive_step.specs.Crews.{is_device};
 ghost use Rattle.smk_laws_turns.specs.Resting.{IsAnswerOf, IsReplyOf, IsTold, looked_as, refused_command};
@@ -60,7 +62,15 @@ fn check_grown(live: &LivePlan) -> Result<(), Fault>
     }
 }
 
-// Whether nothing is refused of the commands of the plan's jobs.
+// Whether all jobs are seen to have commands, for as many cores as are set.
+fn have_commands(settings: &Settings, live: &LivePlan) -> bool
+    requires live { IsLive live.now }
+    ensures { result ≡ true → list_all (has_command settings.now.cores) live.now.base.jobs.jobs ≡ true }
+{
+    live.settings().cores == settings.cores && live.has_commands()
+}
+
+// Whether nothing is refused of the commands of the plan's jobs. They are filled in only where not all jobs are seen to have one.
 fn check_jobs(
     alloc: Global,
     flow: &Workflow,
@@ -71,6 +81,9 @@ fn check_jobs(
     ensures commands { OnOk result (refused_command flow.now settings.now live.now ≡ None) }
     ensures err { IfErr result (λ f. (f ≡ fault.OutOfMemory) ⊎ (refused_command flow.now settings.now live.now ≡ Some f)) }
 {
+    if have_commands(settings, live) {
+        return Ok(());
+    }
     let looked = looked_states(alloc, live.as_plan().states.as_slice(), live.phases())?;
     check_commands(alloc, flow, settings.cores, &live.jobs().jobs, &looked)?;
     Ok(())

@@ -1,5 +1,5 @@
 -- A job is free to begin by what is told just where it is by the definitions.
-use Rattle.std.proofs.Common.{◌≡◌, ℕ, Bool, false, not, ◌&&◌, List, [], ◌++◌, map, zip, sym, ap, subst, ◌∙◌, Option, Some, None, option_map, refl}
+use Rattle.std.proofs.Common.{◌≡◌, ℕ, Bool, false, not, ◌&&◌, List, [], ◌++◌, map, sym, ap, subst, ◌∙◌, Option, Some, None, option_map, refl}
 use Rattle.std.specs.Prelude.{slice_index_or}
 use Rattle.std.specs.List.{list_all, slice_get, AllZip}
 use Rattle.std.proofs.lemmas.Option.{get_or_from_slice_get, slice_get-map}
@@ -16,7 +16,6 @@ use Rattle.smk_plan.specs.Sights.{is_whole_made}
 use Rattle.smk_plan.specs.States.{awaits, is_at_hand, is_read_now, job_path, kept_state, staged, test_some}
 use Rattle.smk_plan_facts.specs.Facts.{IsMade}
 use Rattle.smk_plan_facts.specs.Telling.{directories_of, is_told_whole, wholes_in}
-use Rattle.smk_plan_states.specs.declared.lines.Line.{Line}
 use Rattle.smk_plan_states.specs.Judged.{Judging, began, with_states}
 use Rattle.smk_plan_states.specs.Lines.{line_of}
 use Rattle.smk_plan_states.specs.Served.{AreServed}
@@ -27,7 +26,7 @@ use Rattle.smk_plan_live.specs.Lives.{IsLive, progress_of}
 use Rattle.smk_plan_live.specs.Now.{known_now, seen_now}
 use Rattle.smk_plan_live.specs.Phases.{has_begun}
 use Rattle.smk_plan_live.proofs.Numbered.{begun_are, running_are}
-use Rattle.smk_laws_plan.proofs.CurrentLists.{In, none_some, some_inj}
+use Rattle.smk_laws_plan.proofs.CurrentLists.{none_some, some_inj}
 use Rattle.smk_laws_plan.proofs.CurrentApart.{JobsApart}
 use Rattle.smk_laws_plan.proofs.CurrentRecipes.{map_same}
 use Rattle.smk_drive_pick.specs.declared.next.Ground.{Ground}

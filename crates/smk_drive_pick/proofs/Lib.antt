@@ -11,3 +11,4 @@ mod Needs
 mod Spent
 mod Listed
 mod Zips
+mod Better

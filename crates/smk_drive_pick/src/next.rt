@@ -1,7 +1,9 @@
 //! The job that begins next.
 
-ghost use Rattle.std.specs.Prelude.{◌≡◌, None, zip, option_map, IfOk};
+ghost use Rattle.std.specs.Prelude.{◌≡◌, ℕ, Bool, true, None, zip, option_map, IfOk};
 ghost use Rattle.std.specs.List.{slice_get};
+ghost use Rattle.smk_flow.specs.declared.job.Job.{Job as JobValue};
+ghost use Rattle.smk_trigger.specs.declared.reason.State.{State as StateValue};
 ghost use Rattle.smk_plan.specs.States.{test_some};
 ghost use Rattle.smk_plan_live.specs.Lives.{IsLive};
 ghost use Rattle.smk_plan_live.specs.Phases.{has_begun};
@@ -124,6 +126,25 @@ impl Ground<'_> {
             priority: job.priority,
         }))
     }
+
+    // The best so far, or the job of the number in its place: what it asks for is gathered only where its priority is greater.
+    fn or_better(
+        &self,
+        alloc: Global,
+        room: &Room,
+        number: usize,
+        job: &Job,
+        state: &State,
+        best: Option<Best>,
+    ) -> Result<Option<Best>, OutOfMemory>
+        ensures { IfOk result (λ found. found ≡ better best (if_passes (may_begin_by self.now room.now number) number (job.now, state.now))) }
+    {
+        if is_no_better(job, best) {
+            return Ok(best);
+        }
+        let later = self.if_free(alloc, room, number, job, state)?;
+        Ok(better(best, later))
+    }
 }
 
 // The later one, where its priority is greater.
@@ -140,6 +161,17 @@ fn better(best: Option<Best>, later: Option<Best>) -> Option<Best>
         }
         (Some(best), None) => Some(best),
         (None, later) => later,
+    }
+}
+
+// Whether the job is no better than the best so far, be it free or not.
+fn is_no_better(job: &Job, best: Option<Best>) -> bool
+    ensures { result ≡ true → (test : JobValue × StateValue → Bool) (number : ℕ) (state : StateValue)
+        → better best (if_passes test number (job.now, state)) ≡ best }
+{
+    match best {
+        None => false,
+        Some(best) => !(job.priority > best.priority),
     }
 }
 
@@ -168,8 +200,7 @@ fn best_of(
         let Some(state) = states.get(number) else {
             return Ok(best);
         };
-        let later = told.if_free(alloc, room, number, job, state)?;
-        best = better(best, later);
+        best = told.or_better(alloc, room, number, job, state, best)?;
     }
     Ok(best)
 }

@@ -14,7 +14,7 @@ use Rattle.smk_world.specs.declared.event.Event.{Event}
 use Rattle.smk_world.specs.declared.event.Node.{Node}
 use Rattle.smk_world.specs.declared.event.Node.TheVariants.{Directory, Regular}
 use Rattle.smk_world.specs.declared.event.Call.TheVariants.{Created, Removed, Written}
-use Rattle.smk_world.specs.World.{World, Nodes, IsFormed, Leaves, MayLeave, after, firmly, going, loose, node_in, places_in, reading, run, standing, world_of}
+use Rattle.smk_world.specs.World.{World, Nodes, IsFormed, Leaves, MayLeave, firmly, going, loose, node_in, places_in, reading, run, standing, world_of}
 use Rattle.smk_world.specs.Folders.{CanHold, IsTree}
 use Rattle.smk_world.specs.Trees.{Path, IsIn, is_path_text}
 use Rattle.smk_world.proofs.Folders.{no_node}

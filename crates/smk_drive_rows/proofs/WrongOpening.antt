@@ -1,5 +1,5 @@
 -- A wrong opening: a mark of an earlier run is left as it is.
-use Rattle.std.proofs.Common.{◌≡◌, Bool, true, false, List, [], ◌∷◌, ◌++◌, codes, refl, sym, ap, subst, ◌∙◌, Ok, Result, true≢false}
+use Rattle.std.proofs.Common.{◌≡◌, true, false, List, [], ◌∷◌, ◌++◌, codes, refl, sym, ap, subst, ◌∙◌, Ok, Result, true≢false}
 use Rattle.smk_base.specs.Place.{mark_place}
 use Rattle.smk_world.specs.declared.event.Call.{Call}
 use Rattle.smk_world.specs.declared.event.Call.TheVariants.{Looked, ReadFile, ReadFolder, Written, Created, Removed, MadeParents, Settled, Protected, Started, Waited}
@@ -7,7 +7,7 @@ use Rattle.smk_world.specs.declared.event.Event.{Event}
 use Rattle.smk_world.specs.declared.event.Node.TheVariants.{Regular}
 use Rattle.smk_world.specs.World.{World, Nodes, world_of}
 use Rattle.smk_world.specs.Devices.{AreLooks, is_look}
-use Rattle.smk_world.specs.Requests.{HasDone, Request, request}
+use Rattle.smk_world.specs.Requests.{HasDone, request}
 use Rattle.smk_world.specs.Requests.Request.{Settle}
 use Rattle.smk_world.specs.Trees.{Path}
 use Rattle.smk_keep.specs.declared.fault.KeepFault.{KeepFault}

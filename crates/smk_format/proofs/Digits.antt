@@ -8,7 +8,7 @@ use Rattle.std.proofs.lemmas.Str.Parse.{IsNumeralModel, numerals_by_value, tells
 use Rattle.std.proofs.lemmas.Fmt.{IsAscii-from_digits}
 use Rattle.std.proofs.lemmas.Bool.{ltb-true}
 use Rattle.smk_base.proofs.Under.{false_unless, both_true}
-use Rattle.smk_format.specs.Fields.{Pick, Place, Strange, digits_len, is_digit, is_numeral, place_of}
+use Rattle.smk_format.specs.Fields.{Place, Strange, digits_len, is_digit, is_numeral, place_of}
 
 own : IsNumeralModel (λ ds. all_ascii_digits ds ≡ true) (digits_value 10)
 own = numerals_by_value _ tells_all_ascii_digits

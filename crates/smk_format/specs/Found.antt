@@ -1,5 +1,5 @@
 -- What the code's values are.
-use Rattle.std.specs.Prelude.{ℕ, List, [], ◌∷◌, Option, Some, None, decimal}
+use Rattle.std.specs.Prelude.{List, [], ◌∷◌, Option, Some, None, decimal}
 use Rattle.smk_pattern.specs.Searching.{now_of}
 use Rattle.smk_format.specs.declared.picks.Pick.{Pick}
 use Rattle.smk_format.specs.declared.picks.Pick.TheVariants as pick

@@ -22,7 +22,7 @@ use Rattle.smk_world.specs.Trees.{Path, Act, Each}
 use Rattle.smk_world.proofs.Devices.{done_append, cut_append, carried_cut}
 use Rattle.smk_store.specs.declared.places.JobPlaces.{JobPlaces}
 use Rattle.smk_store.specs.Steps.{mark_requests, places_of}
-use Rattle.smk_job.specs.Jobs.{LetsBegin, ReadUsers, clear_requests, begin_requests}
+use Rattle.smk_job.specs.Jobs.{LetsBegin, ReadUsers, clear_requests}
 use Rattle.smk_job.specs.Reserves.{HasLaunched}
 use Rattle.smk_job.specs.Starts.{HasStarted, started_child}
 use Rattle.smk_job.proofs.Children.{AreFiles, is_crew, done_children, mark_files, clear_files, files_append}

@@ -1,5 +1,5 @@
 -- A child is started after other calls, and others follow.
-use Rattle.std.proofs.Common.{◌≡◌, inl, inr, ℕ, ◌≤◌, Bool, true, false, List, [], ◌∷◌, ◌++◌, refl, ap, ◌∙◌, arith, Option, None, Result, Ok, Err}
+use Rattle.std.proofs.Common.{◌≡◌, inl, inr, ℕ, ◌≤◌, Bool, false, List, [], ◌∷◌, ◌++◌, refl, ap, ◌∙◌, arith, Option, None, Result, Ok, Err}
 use Rattle.std.specs.Prelude.{is_err}
 use Rattle.smk_world.specs.declared.event.Call.TheVariants.{Started}
 use Rattle.smk_world.specs.declared.event.Change.{Change}

@@ -1,5 +1,5 @@
 -- What was called, by what was asked.
-use Rattle.std.proofs.Common.{◌≡◌, Bool, false, List, refl, ap, Ok, Err, true≢false}
+use Rattle.std.proofs.Common.{◌≡◌, Bool, false, List, ap, Ok, Err, true≢false}
 use Rattle.smk_world.specs.declared.event.Call.{Call}
 use Rattle.smk_world.specs.declared.event.Call.TheVariants.{Looked, ReadFile, ReadFolder, Written, Created, Removed, MadeParents, Settled, Protected, Started, Waited}
 use Rattle.smk_world.specs.Calls.{failed}

@@ -1,6 +1,6 @@
 -- The lock that is released.
-use Rattle.std.proofs.Common.{◌≡◌, ◌⊎◌, inl, inr, Bool, true, false, not, List, [], ◌∷◌, refl, sym, ap, subst, ◌∙◌, None, Result, Ok, Err, arith}
-use Rattle.std.specs.Prelude.{is_err, is_ok}
+use Rattle.std.proofs.Common.{◌≡◌, ◌⊎◌, inl, inr, true, false, not, List, [], ◌∷◌, refl, sym, ap, subst, ◌∙◌, None, Result, Ok, Err, arith}
+use Rattle.std.specs.Prelude.{is_err}
 use Rattle.smk_base.specs.Place.{lock_place}
 use Rattle.smk_world.specs.declared.event.Event.{Event}
 use Rattle.smk_world.specs.declared.event.Failed.{Failed}

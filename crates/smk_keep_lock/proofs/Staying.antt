@@ -1,5 +1,5 @@
 -- What calls leave as it was, where they keep to some places.
-use Rattle.std.proofs.Common.{◌≡◌, ◌⊎◌, inl, inr, Bool, true, false, ◌&&◌, ◌||◌, List, [], ◌∷◌, refl, sym, ap, subst, ◌∙◌, bytes_eq, Option, Some, None, Ok, Err, true≢false}
+use Rattle.std.proofs.Common.{◌≡◌, ◌⊎◌, inl, inr, Bool, true, false, ◌&&◌, ◌||◌, List, [], ◌∷◌, refl, sym, ap, subst, ◌∙◌, bytes_eq, Option, Ok, Err, true≢false}
 use Rattle.std.specs.Prelude.{if◌then◌else◌, is_some}
 use Rattle.std.proofs.lemmas.Bool.{or_parts, and_right}
 use Rattle.smk_base.specs.Path.{is_under, is_at_or_under}

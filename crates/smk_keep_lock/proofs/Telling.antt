@@ -1,6 +1,6 @@
 -- What was put.
-use Rattle.std.proofs.Common.{◌≡◌, true, false, [], ◌++◌, take, drop, sym, ap, subst, ◌∙◌, refl, Result, Ok, Err, arith, true≢false}
-use Rattle.std.specs.Prelude.{ℕ, is_err}
+use Rattle.std.proofs.Common.{◌≡◌, true, false, [], ◌++◌, take, drop, sym, ◌∙◌, refl, Result, Ok, Err, arith, true≢false}
+use Rattle.std.specs.Prelude.{is_err}
 use Rattle.std.proofs.lemmas.List.{append-nil, take_all, take-append-drop}
 use Rattle.smk_world.specs.declared.event.Failed.{Failed}
 use Rattle.smk_world.specs.Devices.{Sunk, HasPut}

@@ -1,5 +1,5 @@
 -- What was put on a sink.
-use Rattle.std.specs.Prelude.{◌≡◌, ℕ, Bool, true, false, ◌++◌, Some, IsSome}
+use Rattle.std.specs.Prelude.{◌≡◌, ℕ, Bool, false, ◌++◌, Some, IsSome}
 use Rattle.smk_world.specs.Calls.{HasCause}
 use Rattle.smk_world.specs.Devices.{Sunk}
 use Rattle.smk_report.specs.Lines.{Text}

@@ -21,7 +21,7 @@ use Rattle.smk_drive_step.specs.declared.children.Child.{Child}
 use Rattle.smk_drive_step.specs.declared.halt.Halt.{Halt}
 use Rattle.smk_drive_step.specs.Beginning.{HasReadAndBegun}
 use Rattle.smk_drive_step.specs.Crews.{halted_by, is_device, or_later}
-use Rattle.smk_drive_course.specs.Stands.{AtRest, Between, GoesBy, IsReplanned, LacksMemory, Stand, first_fault}
+use Rattle.smk_drive_course.specs.Stands.{AtRest, Between, IsReplanned, LacksMemory, Stand, first_fault}
 use Rattle.smk_drive_course.specs.Stands as stands
 use Rattle.smk_drive_course.specs.Steps.{Deed, Started}
 use Rattle.smk_drive_first.specs.Opening.{AreRules}

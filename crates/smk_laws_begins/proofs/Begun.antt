@@ -1,41 +1,36 @@
 -- A run that has opened stands where its course begins.
-use Rattle.std.proofs.Common.{◌≡◌, ◌≤◌, ◌<◌, ◌+◌, ◌^◌, ℕ, Bool, true, false, List, [], ◌∷◌, map, length, refl, sym, ap, subst, ◌∙◌, inl, inr, arith, Option, Some, None, Ok}
-use Rattle.std.specs.Prelude.{Contains, is_none, not, nat_eq}
-use Rattle.std.specs.List.{list_all}
+use Rattle.std.proofs.Common.{◌≡◌, ◌≤◌, ◌<◌, ◌+◌, ◌^◌, ℕ, true, false, List, [], ◌∷◌, refl, sym, ap, subst, ◌∙◌, inl, arith, Some, Ok}
+use Rattle.std.specs.Prelude.{Contains, not, nat_eq}
 use Rattle.std.specs.List.Sorted.{IsPermutation}
 use Rattle.std.proofs.lemmas.List.Sorted.{IsPermutation-refl}
 use Rattle.smk_world.specs.declared.event.Event.{Event}
 use Rattle.smk_world.specs.declared.event.Child.{Child as WorldChild}
-use Rattle.smk_world.specs.Calls.{started_numbers}
 use Rattle.smk_world.specs.Folders.{IsTree}
 use Rattle.smk_world.specs.Runs.{Follows}
-use Rattle.smk_world.specs.Trees.{Act, IsIn, Path}
+use Rattle.smk_world.specs.Trees.{Act, IsIn}
 use Rattle.smk_world.specs.World.{World, IsFormed, numbers, run}
 use Rattle.smk_flow.specs.Flows.{Flow}
 use Rattle.smk_store.specs.Images.{Image}
 use Rattle.smk_store.specs.Soundness.{SameSources}
-use Rattle.smk_chain.specs.Derive.{Derived, derivation}
 use Rattle.smk_chain_derive.proofs.Seen.{seen_lists_known}
-use Rattle.smk_pick.specs.declared.room.Ask.{Ask}
 use Rattle.smk_pick.specs.declared.settings.Settings.{Settings}
 use Rattle.smk_pick.specs.Shares.{Holds}
-use Rattle.smk_plan.specs.States.{IsPlan, LastPlan, Plan, Progress, new_listings, nothing_done}
+use Rattle.smk_plan.specs.States.{IsPlan, LastPlan, Progress, new_listings, nothing_done}
 use Rattle.smk_job.specs.Jobs.{Underway}
 use Rattle.smk_run.specs.declared.tally.Tally.{Tally}
 use Rattle.smk_plan_live.specs.declared.live.LivePlan.{LivePlan}
-use Rattle.smk_plan_live.specs.Lives.{IsAgreed, IsLive, judging_of, progress_of}
-use Rattle.smk_drive.specs.Moments.{Begun, Rules, greatest, seen}
+use Rattle.smk_plan_live.specs.Lives.{IsAgreed, progress_of}
+use Rattle.smk_drive.specs.Moments.{Rules, greatest, seen}
 use Rattle.smk_drive.specs.Moments as moments
 use Rattle.smk_drive.specs.Refusals.{ChainRefuses}
 use Rattle.smk_drive_pick.specs.Picking.{AreAlike}
-use Rattle.smk_drive_step.specs.declared.children.Child.{Child}
 use Rattle.smk_drive_step.specs.Crews.{goings}
-use Rattle.smk_drive_course.specs.Stands.{IsClear, first_stand, moment_of}
+use Rattle.smk_drive_course.specs.Stands.{IsClear, first_stand}
 use Rattle.smk_drive_course.specs.Driven.{IsOpening}
 use Rattle.smk_drive_first.specs.declared.opening.Opened.{Opened}
-use Rattle.smk_drive_first.specs.Keeping.{IsFresh, plan_in}
-use Rattle.smk_drive_first.specs.Opening.{AreRules, IsNextSerial, IsOpened}
-use Rattle.smk_laws_turns.specs.Hubs.{AreApart, AreChildrenOf, AreRunning, IsAt, IsCountOf, IsCrew, IsHome, IsKept, IsOurs, Parts, asks_in, if_fits, plan_of}
+use Rattle.smk_drive_first.specs.Keeping.{IsFresh}
+use Rattle.smk_drive_first.specs.Opening.{AreRules, IsOpened}
+use Rattle.smk_laws_turns.specs.Hubs.{AreApart, IsAt, IsCrew, IsHome, IsKept, IsOurs, Parts, if_fits, plan_of}
 use Rattle.smk_laws_plan.specs.Signs.{HasOwnSigns}
 use Rattle.smk_laws_changes.proofs.Homes.{home_stays}
 use Rattle.smk_drive_hub.specs.Keeping.{IsAtStart}

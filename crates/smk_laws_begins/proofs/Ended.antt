@@ -1,27 +1,23 @@
 -- What a run tells at its end.
-use Rattle.std.proofs.Common.{◌≡◌, Bool, true, false, List, [], ◌∷◌, ◌&&◌, map, refl, sym, ap, subst, ◌∙◌, Option, Some, None}
-use Rattle.std.specs.Prelude.{IsTrue, is_none}
+use Rattle.std.proofs.Common.{◌≡◌, Bool, true, false, List, [], ◌∷◌, ◌&&◌, map, refl, sym, subst, ◌∙◌, None}
+use Rattle.std.specs.Prelude.{IsTrue}
 use Rattle.std.specs.List.{list_all}
 use Rattle.smk_world.specs.declared.event.Event.{Event}
 use Rattle.smk_world.specs.World.{World}
-use Rattle.smk_world.specs.Trees.{Path}
-use Rattle.smk_trigger.specs.declared.reason.State.{State}
 use Rattle.smk_trigger.specs.JobStates.{is_clean}
 use Rattle.smk_pick.specs.declared.settings.Settings.{Settings}
-use Rattle.smk_plan.specs.States.{Plan, Progress, is_current, test_some}
-use Rattle.smk_plan_states.specs.Judged.{with_states}
+use Rattle.smk_plan.specs.States.{Plan, is_current, test_some}
 use Rattle.smk_plan_table.specs.Plans.{HasMadeAt}
 use Rattle.smk_plan_live.specs.Lives.{IsAgreed, judging_of, progress_of}
 use Rattle.smk_drive.specs.Moments.{Rules, seen}
 use Rattle.smk_drive.specs.Moments as moments
 use Rattle.smk_drive.specs.Reports.{is_current_by}
-use Rattle.smk_drive_course.specs.declared.ending.End.{End}
-use Rattle.smk_drive_course.specs.Stands.{NoneLeft, Stand, moment_of}
+use Rattle.smk_drive_course.specs.Stands.{Stand, moment_of}
 use Rattle.smk_drive_course.specs.Steps.{Deed}
-use Rattle.smk_drive_course.specs.Driven.{HasEndedWell, are_clean}
+use Rattle.smk_drive_course.specs.Driven.{are_clean}
 use Rattle.smk_laws_turns.specs.Hubs.{IsAt, IsKept, Parts, plan_of}
 use Rattle.smk_laws_turns.proofs.Crew.{crew_idle}
-use Rattle.smk_laws_begins.specs.Ended.{EndsWell, IsAllMade, IsEndOf}
+use Rattle.smk_laws_begins.specs.Ended.{EndsWell, IsAllMade}
 
 only_one : (b : Bool) → b ≡ true → (b && true) ≡ true
 only_one true h = refl

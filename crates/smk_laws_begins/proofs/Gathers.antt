@@ -7,7 +7,7 @@ use Rattle.smk_flow.specs.declared.job.Job.{Job}
 use Rattle.smk_choose.specs.Choose.{Sources}
 use Rattle.smk_store.specs.Images.{Image, is_source}
 use Rattle.smk_store.specs.Soundness.{SameSources}
-use Rattle.smk_chain.specs.Derive.{Listings, listing}
+use Rattle.smk_chain.specs.Derive.{listing}
 use Rattle.smk_trigger.specs.declared.reason.State.{State}
 use Rattle.smk_plan.specs.States.{LastPlan, Plan, awaits, directory_over, gathers_from, is_at_hand}
 use Rattle.smk_laws_plan.specs.Current.{IsComplete}

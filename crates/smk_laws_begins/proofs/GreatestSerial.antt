@@ -1,22 +1,21 @@
 -- The greatest serial of a store is that of its folder.
-use Rattle.std.proofs.Common.{◌≡◌, inl, inr, ℕ, max, Bool, true, false, not, List, [], ◌∷◌, ◌++◌, map, filter, refl, sym, ap, subst, ◌∙◌, bytes_eq, flat_map, Option, Some, None}
+use Rattle.std.proofs.Common.{◌≡◌, inl, inr, ℕ, max, Bool, true, false, not, List, [], ◌∷◌, ◌++◌, filter, refl, sym, ap, subst, ◌∙◌, bytes_eq, flat_map, Option, Some, None}
 use Rattle.std.specs.Prelude.{if◌then◌else◌}
 use Rattle.std.specs.List.{cons_option, filter_map, fold}
 use Rattle.smk_base.proofs.Places.{place_itself, same_place}
-use Rattle.smk_base.proofs.Under.{false_unless, never_both}
-use Rattle.smk_world.specs.World.{World}
+use Rattle.smk_base.proofs.Under.{false_unless}
 use Rattle.smk_world.specs.Trees.{IsIn, Path}
 use Rattle.smk_record.specs.declared.record.Record.{Record}
 use Rattle.smk_record.specs.Records.{are_rising, serials}
 use Rattle.smk_record.proofs.Rising.{Above, less_itself, rising_first, rising_rest}
 use Rattle.smk_store.specs.declared.store.Entry.{Entry}
-use Rattle.smk_store.specs.Images.{Image, is_known, readable, record_at}
+use Rattle.smk_store.specs.Images.{Image, is_known, record_at}
 use Rattle.smk_store.specs.Loading.{IsStoreOf, entry_at, entry_in}
 use Rattle.smk_store.specs.Serials.{all_serials, greatest_serial, unmarked_serials}
 use Rattle.smk_store.specs.Stores.{Known, entry_of}
 use Rattle.smk_chain_derive.specs.Clashes.{ListsKnown, paths_in}
 use Rattle.smk_chain_derive.proofs.Stored.{listed_same}
-use Rattle.smk_drive.specs.Moments.{Rules, greatest, seen}
+use Rattle.smk_drive.specs.Moments.{Rules, greatest}
 
 -- ## Each entry is found
 

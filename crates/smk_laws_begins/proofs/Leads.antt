@@ -29,7 +29,7 @@ use Rattle.smk_plan_live.specs.Carried.{begun}
 use Rattle.smk_drive_step.specs.declared.children.Child.{Child}
 use Rattle.smk_drive_step.specs.declared.halt.Halt.{Halt}
 use Rattle.smk_drive_step.specs.Beginning.{HasReadAndBegun}
-use Rattle.smk_drive_course.specs.Stands.{AtRest, Between, GoesBy, IsReplanned, LacksMemory, Stand, first_fault, moment_of, with_job}
+use Rattle.smk_drive_course.specs.Stands.{GoesBy, IsReplanned, LacksMemory, Stand, moment_of, with_job}
 use Rattle.smk_drive_course.specs.Stands as stands
 use Rattle.smk_drive_course.specs.Steps.{Deed, HasBegun, Started}
 use Rattle.smk_drive_course.specs.Breaks.{Begins}

@@ -19,7 +19,7 @@ use Rattle.smk_report.specs.declared.fault.Fault.TheVariants as fault
 use Rattle.smk_drive.specs.Moments.{Rules, progress_of, seen}
 use Rattle.smk_drive_pick.specs.Picking.{AreAlike}
 use Rattle.smk_drive_step.specs.Crews.{is_device, or_later}
-use Rattle.smk_drive_course.specs.Stands.{AtRest, Between, GoesBy, GoesOn, IsClear, IsRefused, IsReplanned, LacksMemory, Stand, WasHalted, broken_by_device, first_fault, moment_of}
+use Rattle.smk_drive_course.specs.Stands.{AtRest, Between, GoesBy, GoesOn, IsRefused, IsReplanned, LacksMemory, Stand, WasHalted, broken_by_device, first_fault}
 use Rattle.smk_drive_course.specs.Stands as stands
 use Rattle.smk_drive_course.specs.Steps.{AreRemoved, Deed, NoMore}
 use Rattle.smk_drive_first.specs.Opening.{AreRules}

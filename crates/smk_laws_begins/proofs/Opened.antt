@@ -1,49 +1,28 @@
 -- Where a run stands once it has opened.
-use Rattle.std.proofs.Common.{◌≡◌, ◌≤◌, ◌+◌, ◌^◌, ℕ, suc, Bool, true, false, List, [], ◌∷◌, ◌++◌, map, length, refl, sym, ap, subst, ◌∙◌, inl, inr, arith, Option, Some, None, Ok}
-use Rattle.std.specs.Prelude.{Contains, is_none, nat_lt, if◌then◌else◌}
+use Rattle.std.proofs.Common.{◌≡◌, ◌≤◌, ◌+◌, ◌^◌, ℕ, suc, Bool, true, false, List, [], ◌∷◌, ◌++◌, refl, sym, subst, ◌∙◌, inl, inr, arith, Option, Some, None, Ok}
+use Rattle.std.specs.Prelude.{is_none, nat_lt, if◌then◌else◌}
 use Rattle.std.specs.List.{list_all}
-use Rattle.std.specs.List.Sorted.{IsPermutation}
 use Rattle.std.proofs.lemmas.List.Sorted.{IsPermutation-refl}
-use Rattle.smk_base.proofs.Places.{and_first, and_second}
 use Rattle.smk_world.specs.declared.event.Event.{Event}
-use Rattle.smk_world.specs.declared.event.Child.{Child as WorldChild}
-use Rattle.smk_world.specs.Calls.{started_numbers}
-use Rattle.smk_world.specs.Folders.{IsTree}
-use Rattle.smk_world.specs.Requests.{HasDone}
-use Rattle.smk_world.specs.Requests.Request.{Settle}
 use Rattle.smk_world.specs.Runs.{Follows}
-use Rattle.smk_world.specs.Trees.{Act, IsIn, Path}
-use Rattle.smk_world.specs.World.{World, IsFormed, numbers, reading, run}
+use Rattle.smk_world.specs.Trees.{Act, IsIn}
+use Rattle.smk_world.specs.World.{World, reading, run}
 use Rattle.smk_world.specs.Devices.{AreLooks}
 use Rattle.smk_flow.specs.Flows.{Flow}
 use Rattle.smk_store.specs.Images.{Image, image_by}
-use Rattle.smk_store.specs.Serials.{after_serial, greatest_serial}
-use Rattle.smk_chain.specs.Derive.{Derived, derivation}
-use Rattle.smk_chain_derive.proofs.Seen.{seen_lists_known}
+use Rattle.smk_store.specs.Serials.{after_serial}
 use Rattle.smk_pick.specs.declared.settings.Settings.{Settings}
-use Rattle.smk_plan.specs.States.{IsPlan, Last, LastPlan, Plan, Progress, Then, new_listings, nothing_done}
-use Rattle.smk_job.specs.Jobs.{Underway}
-use Rattle.smk_plan_live.specs.declared.live.LivePlan.{LivePlan}
-use Rattle.smk_plan_live.specs.Lives.{IsAgreed, IsLive, judging_of, progress_of}
-use Rattle.smk_drive.specs.Moments.{Rules, greatest, seen}
+use Rattle.smk_plan.specs.States.{IsPlan, Last, LastPlan, Plan, Progress, Then, new_listings}
+use Rattle.smk_drive.specs.Moments.{Rules, seen}
 use Rattle.smk_drive.specs.Moments as moments
-use Rattle.smk_drive_pick.specs.Picking.{AreAlike}
 use Rattle.smk_drive_step.specs.declared.children.Child.{Child}
 use Rattle.smk_drive_step.specs.Crews.{goings}
-use Rattle.smk_drive_course.specs.Stands.{IsClear, first_stand}
 use Rattle.smk_drive_course.specs.Driven.{IsOpening, Opens}
-use Rattle.smk_drive_first.specs.declared.opening.Opened.{Opened}
-use Rattle.smk_drive_first.specs.Keeping.{IsFresh, plan_in}
-use Rattle.smk_drive_first.specs.Opening.{AreRules, IsNextSerial, IsOpened}
 use Rattle.smk_laws_moments.proofs.ChildrenOf.{run_more}
-use Rattle.smk_laws_turns.specs.Hubs.{AreApart, IsAt, IsCrew, IsHome, IsKept, IsOurs, Parts, asks_in, if_fits, plan_of}
+use Rattle.smk_laws_turns.specs.Hubs.{asks_in, if_fits}
 use Rattle.smk_laws_changes.proofs.Settling.{settling_leaves}
-use Rattle.smk_laws_changes.proofs.Homes.{home_stays, looks_leave_all}
+use Rattle.smk_laws_changes.proofs.Homes.{looks_leave_all}
 use Rattle.smk_safe.proofs.Done.{follows_split}
-use Rattle.smk_drive_hub.specs.Keeping.{IsAtStart}
-use Rattle.smk_laws_begins.specs.Opened.{AreSourcesAt, OpenedIsAt}
-use Rattle.smk_laws_begins.proofs.Reach.{greatest_below}
-use Rattle.smk_laws_begins.proofs.GreatestSerial.{greatest_same}
 
 -- ## Free places
 

@@ -1,9 +1,9 @@
 -- The facts that are told of a job of the kept plan are those of the folder as it counts.
-use Rattle.std.proofs.Common.{◌≡◌, ℕ, zero, suc, true, ◌&&◌, not, List, [], ◌∷◌, refl, sym, ap, subst, ◌∙◌, inl, inr, Some}
+use Rattle.std.proofs.Common.{◌≡◌, ℕ, zero, suc, true, ◌&&◌, not, List, [], ◌∷◌, refl, ap, subst, ◌∙◌, Some}
 use Rattle.std.specs.List.{AllZip, list_all, slice_get}
 use Rattle.std.proofs.lemmas.Option.{same_Some}
 use Rattle.smk_world.specs.World.{in_paths}
-use Rattle.smk_world.specs.Trees.{Each, IsIn, Path}
+use Rattle.smk_world.specs.Trees.{Each, Path}
 use Rattle.smk_flow.specs.declared.job.Job.{Job}
 use Rattle.smk_store.specs.Images.{Image, is_source}
 use Rattle.smk_store.specs.Stores.{Known}

@@ -10,3 +10,4 @@ pub mod Turns
 pub mod Driven
 pub mod Telling
 pub mod Came
+pub mod Asking

@@ -5,3 +5,4 @@ pub mod Temps
 pub mod Started
 pub mod Telling
 pub mod Headline
+pub mod Asking

@@ -1,6 +1,7 @@
 //! The headline of the program: what a run gives, whatever has come before, and that it is complete.
 #![tactic(auto)]
 
+ghost use Rattle.smk_laws_call.specs.Asking.{AskedBySources, NextRunStartsNothing, RunKeepsAsked};
 ghost use Rattle.smk_laws_call.specs.Plain.{PlainFlowsGatherAlone, PlainFlowsPlanPlainly};
 ghost use Rattle.smk_laws_call.specs.Calls.{CallIsComplete, ListingIsComplete};
 ghost use Rattle.smk_laws_call.specs.Complete.{DroveIsComplete, RefusedPlansMayStop, ServedListingsAreComplete, ServedRunsAreComplete, WorkIsComplete};
@@ -54,4 +55,12 @@ pub fn headline()
     ensures history { CameIsHistory }
     ensures sound { CameIsSound }
     ensures run { Headline }
+{}
+
+/// Words ask for the same in a folder with the same sources, where each file that is read for the workflow is a source and the same file counts: so after a run that
+/// ended with status 0. And so the next run with the same words starts nothing, whatever has come before, if that run forced no job.
+pub fn words_that_read_sources_ask_the_same()
+    ensures sources { AskedBySources }
+    ensures run { RunKeepsAsked }
+    ensures next { NextRunStartsNothing }
 {}

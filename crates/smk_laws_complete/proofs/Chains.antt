@@ -1,5 +1,5 @@
 -- Each chain of plans ends: a plan after which another one comes lists something that stands and wasn't listed before.
-use Rattle.std.proofs.Common.{◌≡◌, ◌⊎◌, ◌≢◌, ℕ, zero, suc, ◌≤◌, ◌<◌, arith, List, [], ◌∷◌, ◌++◌, refl, sym, ap, subst, inl, inr, ◌∙◌}
+use Rattle.std.proofs.Common.{◌≡◌, ◌⊎◌, ◌≢◌, ℕ, zero, suc, ◌≤◌, ◌<◌, arith, List, [], ◌∷◌, ◌++◌, refl, sym, subst, inl, inr, ◌∙◌}
 use Rattle.smk_flow.specs.Flows.{rule_name}
 use Rattle.smk_store.specs.Images.{Image}
 use Rattle.smk_chain.specs.Derive.{Clash, Deep, Derivation, Derived, Listings, MissingMember, NoCommand, NoInput, NoRule, Refusal, Refused, TooManyPaths, TwoJobs, derivation}

@@ -14,7 +14,7 @@ use Rattle.smk_world.specs.Trees.{Act, Each, IsIn, Path}
 use Rattle.smk_store.specs.Soundness.{Outside, SameSources}
 use Rattle.smk_plan.specs.States.{Plan}
 use Rattle.smk_laws_plan.proofs.CurrentMeaning.{in_from}
-use Rattle.smk_laws_protocol.specs.Protocol.{OpenJob, Phase, RunState, Running, Runs}
+use Rattle.smk_laws_protocol.specs.Protocol.{RunState, Runs}
 use Rattle.smk_laws_protocol.specs.Protocol as protocol
 use Rattle.smk_laws_protocol.specs.Midway.{InPhase, IsFirmly, IsOfJob, Midway, at_entry, has_firm_marks}
 use Rattle.smk_laws_protocol.proofs.MidwayHolds.{holds_midway}

@@ -1,8 +1,7 @@
 -- The laws, by those of jobs that begin and of plans that stay.
 use Rattle.std.proofs.Common.{true, []}
-use Rattle.smk_world.specs.World.{World}
 use Rattle.smk_store.specs.Safety.{KeepsSound}
-use Rattle.smk_store.specs.Soundness.{Outside, SoundWorld}
+use Rattle.smk_store.specs.Soundness.{SoundWorld}
 use Rattle.smk_store.specs.Trust.{SumsDiffer, Versions}
 use Rattle.smk_laws_protocol.proofs.ProtocolHolds.{keeps_sound}
 use Rattle.smk_drive.specs.Moments.{greatest, seen}

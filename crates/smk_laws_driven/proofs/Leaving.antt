@@ -50,7 +50,7 @@ front_true true b h = refl
 front_true false b h = h
 
 -- a last plan is one whichever jobs have begun
-last_free :
+pub last_free :
     (flow : Flow) (image : images.Image) (settings : Settings) → settings.force ≡ No → (a b : List Path) (L : Listings) (plan : Plan) →
     LastPlan flow image settings (begun_so a) L plan → LastPlan flow image settings (begun_so b) L plan
 last_free flow image settings free a b _ _ (Last plan is none) = Last plan (plan_free image settings plan free flow a b is) none

@@ -16,7 +16,6 @@ use Rattle.smk_chain.specs.declared.jobs.Known.{Known}
 use Rattle.smk_pick.specs.declared.settings.Force.TheVariants.{No}
 use Rattle.smk_pick.specs.declared.settings.Settings.{Settings}
 use Rattle.smk_trigger.specs.JobStates.{is_clean}
-use Rattle.smk_trigger.specs.declared.reason.State.TheVariants.{Clean, Open}
 use Rattle.smk_trigger.specs.declared.reason.State.{State}
 use Rattle.smk_plan.specs.States.{AreListed, IsPlan, Plan, awaited, awaits, directory_over, files_listed, gathers_from, is_open_now, is_ready, is_to_restore, is_whole_by, maker_of, makes, new_listings, nothing_done, reasons, stands_whole, state_of, test_some}
 use Rattle.smk_laws_plan.specs.Current.{IsComplete}

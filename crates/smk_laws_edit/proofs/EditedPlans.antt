@@ -20,7 +20,7 @@ use Rattle.smk_trigger.specs.JobStates.{is_dirty, is_restore, is_to_run}
 use Rattle.smk_trigger.specs.Reasons.{own_reasons, when}
 use Rattle.smk_trigger.specs.declared.reason.Reason.TheVariants.{Forced, Upstream}
 use Rattle.smk_trigger.specs.declared.reason.Reason.{Reason}
-use Rattle.smk_trigger.specs.declared.reason.State.TheVariants.{Clean, Dirty, Open}
+use Rattle.smk_trigger.specs.declared.reason.State.TheVariants.{Open}
 use Rattle.smk_trigger.specs.declared.reason.State.{State}
 use Rattle.smk_plan.specs.States.{IsPlan, Last, LastPlan, Plan, Then, awaited, by_force, by_reasons, gathers_from, is_input, is_open_now, is_read_now, is_restored, is_temporary, is_to_restore, is_wanted_back, job_path, made_by, maker_of, makes, makes_awaited, new_listings, nothing_done, reasons, staged, state_of, test_some}
 use Rattle.smk_laws_plan.proofs.CurrentLists.{In, and_left, and_right, any_from, any_in, any_none, clash_of, distinct_in, in_left, append_nil_left, or_cases, or_first, or_left, or_right}

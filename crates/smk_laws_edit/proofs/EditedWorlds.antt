@@ -64,7 +64,7 @@ module _ (read : List ℕ → Option Record) (w : World) (p : Path) (bytes : Lis
     apart : is_at_or_under p own_folder ≡ false
     apart = path_outside p (and_left (is_path p) (is_text p) (and_left (is_path_text p) (is_file here p && not (is_covered here p)) source))
 
-    outside : is_outside p ≡ true
+    pub outside : is_outside p ≡ true
     outside = ap not apart
 
     stands : IsSome (reading (w.nodes p))
@@ -76,7 +76,7 @@ module _ (read : List ℕ → Option Record) (w : World) (p : Path) (bytes : Lis
         go false n h = absurd (true≢false (sym h))
 
     -- elsewhere the same reads
-    same_at : (q : Path) → bytes_eq q p ≡ false → reading (after.nodes q) ≡ reading (w.nodes q)
+    pub same_at : (q : Path) → bytes_eq q p ≡ false → reading (after.nodes q) ≡ reading (w.nodes q)
     same_at q other = go (bytes_eq q p) (is_under p q) (w.nodes q) other (λ u. (tree p stands).folders q u)
       where
         go : (a b : Bool) (s : NodeState) → a ≡ false → (b ≡ true → reading s ≡ Some Directory) →
@@ -92,7 +92,7 @@ module _ (read : List ℕ → Option Record) (w : World) (p : Path) (bytes : Lis
         go false e = refl
         go true e = absurd (clash_of (is_at_or_under p own_folder) (subst (λ z. is_at_or_under z own_folder ≡ true) (same_place q p e) at) apart)
 
-    formed_after : IsFormed after
+    pub formed_after : IsFormed after
     formed_after =
         record {
           rising = adds_rising (p ∷ folders_above p) w.names formed.rising;
@@ -100,13 +100,13 @@ module _ (read : List ℕ → Option Record) (w : World) (p : Path) (bytes : Lis
               let none = not_added_any q (p ∷ folders_above p) w.names h in same_at q (or_false (bytes_eq q p) _ none.0).0 ∙ formed.complete q none.1;
         }
 
-    kept : here.kept ≡ there.kept
+    pub kept : here.kept ≡ there.kept
     kept = kept_same read w after own
 
-    marked : here.marked ≡ there.marked
+    pub marked : here.marked ≡ there.marked
     marked = marked_same read w after own
 
-    noted : here.noted ≡ there.noted
+    pub noted : here.noted ≡ there.noted
     noted = noted_same read w after own
 
     abbrev y : Image

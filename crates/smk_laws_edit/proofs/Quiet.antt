@@ -2,14 +2,14 @@
 use Rattle.std.specs.List.{list_all, list_any}
 use Rattle.std.proofs.Common.{◌≡◌, true, false, ◌&&◌, ◌||◌, List, [], ◌∷◌, ◌++◌, map, refl, sym, ap, None, Ok, Err, is_some, true≢false}
 use Rattle.smk_base.specs.Place.{mark_place}
-use Rattle.smk_world.specs.World.{World, children_after, out_paths, run}
+use Rattle.smk_world.specs.World.{World, children_after, out_paths}
 use Rattle.smk_world.specs.declared.event.Call.TheVariants.{Created, Looked, MadeParents, Protected, ReadFile, ReadFolder, Removed, Settled, Started, Waited, Written}
 use Rattle.smk_world.specs.declared.event.Call.{Call}
 use Rattle.smk_world.specs.declared.event.Child.{Child}
 use Rattle.smk_world.specs.declared.event.Event.{Event}
 use Rattle.smk_flow.specs.declared.job.Job.{Job}
 use Rattle.smk_laws_plan.proofs.CurrentLists.{or_first, or_left, or_right, or_second}
-use Rattle.smk_drive.specs.Moments.{Begun, Rules, is_child_of, is_gone, is_rest, runs, with_end}
+use Rattle.smk_drive.specs.Moments.{Begun, Rules, is_child_of, is_gone, is_rest, with_end}
 use Rattle.smk_drive_course.specs.Keeping.{has_start, is_start}
 use Rattle.smk_drive_course.specs.Moments.{starts}
 

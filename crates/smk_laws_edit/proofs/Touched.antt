@@ -1,18 +1,15 @@
 -- After sources were touched a run with the same words starts nothing: the plan is the same, and by it every job is Clean.
 use Rattle.std.specs.Prelude.{if◌then◌else◌}
-use Rattle.std.proofs.Common.{◌≡◌, ◌⊎◌, Bool, true, false, List, [], map, refl, sym, ap, subst, ◌∙◌, inl, inr, IsTrue, Option, Some, None, option_map}
+use Rattle.std.proofs.Common.{◌≡◌, ◌⊎◌, Bool, true, false, [], map, refl, sym, ap, subst, ◌∙◌, inl, inr, Option, Some, None, option_map}
 use Rattle.std.proofs.lemmas.Option.{none-some}
 use Rattle.smk_base.specs.declared.tree.Tree.TheVariants.{File, Folder}
-use Rattle.smk_base.specs.declared.tree.TreeEntry.{TreeEntry}
-use Rattle.smk_world.specs.declared.event.Event.{Event}
 use Rattle.smk_world.specs.declared.event.Node.{Node}
-use Rattle.smk_world.specs.Trees.{Each, Path, IsIn}
-use Rattle.smk_world.specs.World.{World, run}
+use Rattle.smk_world.specs.Trees.{Path, IsIn}
+use Rattle.smk_world.specs.World.{run}
 use Rattle.smk_flow.specs.declared.job.Job.{Job}
 use Rattle.smk_record.specs.Reading.{record_in}
 use Rattle.smk_store.specs.Images as images
-use Rattle.smk_store.specs.Images.{Content, Image, bytes_of, content_of, entry_under, file_at, is_directory, is_source, names_under, source_at, tree_now}
-use Rattle.smk_trigger.specs.JobStates.{is_clean}
+use Rattle.smk_store.specs.Images.{Content, Image, bytes_of, content_of, entry_under, is_directory, is_source, names_under, tree_now}
 use Rattle.smk_trigger.specs.declared.reason.State.{State}
 use Rattle.smk_plan.specs.States.{IsPlan, LastPlan, Plan, is_spent, new_listings, nothing_done, staged}
 use Rattle.smk_laws_plan.specs.Current.{IsComplete}
@@ -20,9 +17,9 @@ use Rattle.smk_laws_plan.proofs.PlanOne.{one_last_plan}
 use Rattle.smk_laws_history.proofs.CurrentComplete.{seen_is_complete}
 use Rattle.smk_drive.specs.Moments.{Rules}
 use Rattle.smk_cli_target.specs.Files.{seen}
-use Rattle.smk_cli_target.specs.Thrift.{IsTouched, IsTouchedAt, TouchedStartsNone}
+use Rattle.smk_cli_target.specs.Thrift.{IsTouchedAt, TouchedStartsNone}
 use Rattle.smk_cli_target.proofs.NextRun.{IsAtEnd, at_end, at_start, good_exit, had_begun, is_done, last_parts, no_tree, none_started, spent_same}
-use Rattle.smk_cli_target.proofs.PlanStays.{chain_again, idle}
+use Rattle.smk_cli_target.proofs.PlanStays.{chain_again}
 use Rattle.smk_laws_edit.proofs.AnyPlan.{chain_listed}
 use Rattle.smk_laws_edit.proofs.EditedChain.{WasDone}
 use Rattle.smk_laws_edit.proofs.TouchedPlans.{chain_touched}

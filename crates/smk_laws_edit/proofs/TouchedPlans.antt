@@ -26,18 +26,17 @@ use Rattle.smk_store.specs.declared.store.Kept.TheVariants.{Absent, Held, Unread
 use Rattle.smk_store.specs.Images.{Content, Image, content_of, core_at, file_at, holds_source, is_covered, is_directory, is_file, is_folder, is_source, is_whole, readable, record_at, source_at}
 use Rattle.smk_store.specs.Soundness.{Sound}
 use Rattle.smk_store.specs.Trust.{HasVersion, Versions, content_stamp, holder, is_marked_but, is_summed, none_eased, source_stamp, stamp_now_but, sum_of, unmarked_stamp_but}
-use Rattle.smk_chain.specs.Derive.{Derived, Listings, derivation, distinct, listing, sources_of}
-use Rattle.smk_chain.specs.declared.jobs.Known.{Known}
+use Rattle.smk_chain.specs.Derive.{Listings, distinct, listing, sources_of}
 use Rattle.smk_pick.specs.declared.settings.Settings.{Settings}
 use Rattle.smk_trigger.specs.JobStates.{is_clean, is_dirty, is_open}
-use Rattle.smk_trigger.specs.Reasons.{changes, changes_from, has_bad_record, held, is_updated, lacks_record, once, own_reasons, same_code, same_inputs, same_params, when}
+use Rattle.smk_trigger.specs.Reasons.{changes_from, has_bad_record, held, is_updated, once, own_reasons, same_code, same_inputs, same_params, when}
 use Rattle.smk_trigger.specs.declared.reason.Reason.{Reason}
 use Rattle.smk_trigger.specs.declared.reason.Reason.TheVariants.{BadRecord, Code, Forced, Inputs, Marked, New, Params, Updated, Upstream}
 use Rattle.smk_trigger.specs.declared.reason.State.{State}
 use Rattle.smk_trigger.specs.declared.reason.State.TheVariants.{Open}
-use Rattle.smk_plan.specs.States.{IsPlan, Last, LastPlan, Plan, Then, awaited, awaits, by_reasons, files_listed, gathers_from, is_forced, is_open_now, is_read_now, is_ready, is_restored, is_to_restore, is_wanted_back, is_whole_by, made_by, maker_of, makes, new_listings, nothing_done, reasons, stands_whole, state_of, test_some}
+use Rattle.smk_plan.specs.States.{IsPlan, Last, LastPlan, Plan, Then, awaited, awaits, by_reasons, files_listed, gathers_from, is_forced, is_open_now, is_read_now, is_ready, is_restored, is_to_restore, is_wanted_back, is_whole_by, made_by, maker_of, new_listings, nothing_done, reasons, stands_whole, state_of, test_some}
 use Rattle.smk_laws_plan.specs.Current.{IsComplete}
-use Rattle.smk_laws_plan.proofs.CurrentLists.{In, any_none, append_nil_left, append_nil_right, flat_in, map_in, map_nil, or_cases}
+use Rattle.smk_laws_plan.proofs.CurrentLists.{In, any_none, append_nil_left, append_nil_right, flat_in, map_in, or_cases}
 use Rattle.smk_laws_plan.proofs.CurrentRecipes.{map_same}
 use Rattle.smk_laws_plan.proofs.CurrentSame.{Agrees, OwnCalm, held_agrees, in_once_of, once_within, own_calm}
 use Rattle.smk_cli_target.specs.Thrift.{IsTouchedAt, TellSums}
@@ -151,7 +150,7 @@ module _
         go (inl e) = ap is_directory e
         go (inr t) = ap is_directory t.stands ∙ sym (not_folder (i.node q) t.source (stood q t.source t.stood).1)
 
-    known : (q : Path) → is_source y q ≡ is_source i q
+    pub known : (q : Path) → is_source y q ≡ is_source i q
     known q = λ n. is_path_text q && (stand q n && not (is_covered i q))
 
     holds : (q : Path) → holds_source y q ≡ holds_source i q
@@ -174,7 +173,7 @@ module _
     whole_by q kind None = whole q kind
     whole_by q kind (Some d) = λ n. whole d FolderKind n && stand q n
 
-    stands_same : (k : Job) (q : Path) → stands_whole y q k ≡ stands_whole i q k
+    pub stands_same : (k : Job) (q : Path) → stands_whole y q k ≡ stands_whole i q k
     stands_same k q = whole_by q (kind_in k.recipe q) (folder_over k.recipe q)
 
     -- ## Stamps now

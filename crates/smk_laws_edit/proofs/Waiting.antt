@@ -19,7 +19,7 @@ use Rattle.smk_laws_plan.specs.Current.{IsComplete}
 use Rattle.smk_laws_plan.proofs.CurrentLists.{and_left, and_right, filter_in, find_in, flat_in, in_either, map_in, or_cases, or_left, or_right, zip_first}
 use Rattle.smk_laws_plan.proofs.CurrentPaths.{among_in}
 use Rattle.smk_drive.specs.Lawful.{fit_together, lock_places, makes_folders, protects, running_jobs}
-use Rattle.smk_drive.specs.Moments.{AtEntry, AtRest, Begun, Between, IsMoment, Moment, Rules, begins, begun_after, begun_of, changes_at, is_closed, is_rest, is_spent_now, is_spent_removal, places, progress_of, runs, seen, with_end}
+use Rattle.smk_drive.specs.Moments.{AtEntry, AtRest, Begun, Between, IsMoment, Moment, Rules, begins, begun_after, begun_of, changes_at, is_closed, is_rest, is_spent_now, is_spent_removal, places, progress_of, seen, with_end}
 use Rattle.smk_laws_protocol.proofs.Basics.{each_in}
 use Rattle.smk_laws_history.proofs.CurrentComplete.{seen_is_complete}
 use Rattle.smk_drive_course.specs.Keeping.{Spends, has_start, is_start}

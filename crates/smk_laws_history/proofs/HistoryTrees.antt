@@ -1,6 +1,6 @@
 -- Each step of a history keeps a tree.
-use Rattle.std.proofs.Common.{◌≡◌, ◌⊎◌, inl, inr, ℕ, Bool, true, false, not, ◌&&◌, ◌||◌, ◌==◌, List, [], ◌∷◌, ◌++◌, length, arith, refl, sym, ap, subst, ◌∙◌, Option, Some, None}
-use Rattle.std.specs.Prelude.{IsSome, is_some, if◌then◌else◌, bytes_eq, nat_le}
+use Rattle.std.proofs.Common.{◌≡◌, ◌⊎◌, inl, inr, Bool, true, false, not, ◌&&◌, ◌||◌, ◌==◌, List, [], ◌∷◌, ◌++◌, length, arith, refl, sym, ap, subst, ◌∙◌, Option, Some, None}
+use Rattle.std.specs.Prelude.{IsSome, if◌then◌else◌, bytes_eq, nat_le}
 use Rattle.std.specs.List.{list_all}
 use Rattle.smk_base.specs.Path.{own_folder, is_under, is_at_or_under, is_path, is_part, are_parts, are_path_bytes, parts}
 use Rattle.smk_base.proofs.Places.{same_place, and_first, and_second}
@@ -11,7 +11,7 @@ use Rattle.smk_world.specs.Folders.{has_names, CanHold, IsTree}
 use Rattle.smk_world.specs.World.{World, reading, firmly, folders_above}
 use Rattle.smk_world.specs.Trees.{Path, is_path_text, is_text}
 use Rattle.smk_world.proofs.Folders.{no_node, above_differs, names_above, tree_by, tree_run}
-use Rattle.smk_store.specs.Images.{seen, is_file, is_folder, is_directory, is_source, is_covered, is_outside}
+use Rattle.smk_store.specs.Images.{seen, is_file, is_folder, is_directory, is_covered, is_outside}
 use Rattle.smk_store.specs.Soundness.{Outside}
 use Rattle.smk_laws_history.specs.Histories.{edited, removed, can_stand, Step, Edit, Remove, Call, Crash}
 

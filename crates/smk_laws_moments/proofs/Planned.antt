@@ -7,7 +7,7 @@ use Rattle.smk_world.proofs.Names.{reads_may_stay, reads_there}
 use Rattle.smk_flow.specs.declared.job.Job.{Job}
 use Rattle.smk_choose.specs.Choose.{Sources}
 use Rattle.smk_record.specs.declared.record.Record.{Record}
-use Rattle.smk_store.specs.Images.{Image, image_by, image_of, is_source, source_at}
+use Rattle.smk_store.specs.Images.{image_by, image_of, is_source, source_at}
 use Rattle.smk_store.specs.Images as images
 use Rattle.smk_store.specs.Soundness.{told}
 use Rattle.smk_chain.specs.Derive.{Listings, jobs, listing, sources_of}

@@ -1,7 +1,7 @@
 -- A stand of a run and the state of the protocol: which jobs are open, with what they were begun.
 use Rattle.std.specs.Prelude.{◌≡◌, ◌≢◌, ◌⊎◌, ◌+◌, ◌<◌, ◌^◌, ℕ, true, List, [], ◌∷◌, map, filter, length, Some, None}
 use Rattle.std.specs.List.{flat_map}
-use Rattle.smk_world.specs.World.{World, in_paths, out_paths}
+use Rattle.smk_world.specs.World.{World, out_paths}
 use Rattle.smk_world.specs.Trees.{Path, IsIn, Each}
 use Rattle.smk_record.specs.declared.record.Record.{Record}
 use Rattle.smk_record.specs.declared.record.Stamp.{Stamp}
@@ -10,7 +10,7 @@ use Rattle.smk_flow.specs.declared.job.Job.{Job}
 use Rattle.smk_trigger.specs.declared.reason.State.{State}
 use Rattle.smk_trigger.specs.JobStates.{is_restore}
 use Rattle.smk_plan.specs.States.{Plan, none_or_one}
-use Rattle.smk_chain.specs.Derive.{Listings, listing}
+use Rattle.smk_chain.specs.Derive.{listing}
 use Rattle.smk_plan.specs.States as plans
 use Rattle.smk_job.specs.Jobs.{Underway, too_long}
 use Rattle.smk_run.specs.Runs.{AreWritable}

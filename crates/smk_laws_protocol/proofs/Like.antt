@@ -1,6 +1,6 @@
 -- Records that vouch for the same: they differ at most in the stamps of sources that had the same content.
-use Rattle.std.proofs.Common.{◌≡◌, ◌⊎◌, ℕ, zero, suc, Bool, true, false, List, [], ◌∷◌, map, refl, sym, ap, subst, inl, inr, arith, ◌∙◌, Option, Some, None}
-use Rattle.std.specs.Prelude.{◌||◌, ◌==◌, ◌++◌, bytes_eq, IsTrue, zip, if◌then◌else◌}
+use Rattle.std.proofs.Common.{◌≡◌, ◌⊎◌, ℕ, zero, suc, Bool, true, false, List, [], ◌∷◌, map, refl, sym, ap, subst, inl, inr, ◌∙◌, Option, Some, None}
+use Rattle.std.specs.Prelude.{◌||◌, ◌==◌, ◌++◌, IsTrue, zip, if◌then◌else◌}
 use Rattle.std.specs.List.{AllZip, flat_map}
 use Rattle.std.specs.Option.{option_map, option_and_then}
 use Rattle.smk_base.specs.declared.tree.Tree.{Tree}
@@ -15,7 +15,7 @@ use Rattle.smk_store.specs.Trust.{Versions, HasVersion, SumsDiffer, Eased, vouch
 use Rattle.smk_store.proofs.Versions.{agreed, serial_agreed, what_input}
 use Rattle.smk_laws_protocol.specs.Protocol.{IsAgain}
 use Rattle.smk_laws_protocol.proofs.View.{View, Speaks, Chain, Link, holder, has_made, input_value, vir}
-use Rattle.smk_laws_protocol.proofs.Basics.{clash, some_same}
+use Rattle.smk_laws_protocol.proofs.Basics.{clash}
 use Rattle.smk_laws_protocol.proofs.Chains.{map_same, value_of_product}
 
 -- ## What an input was

@@ -1,6 +1,6 @@
 -- A mark is removed once records and outputs are firm: every image with or without it is sound, with the same sources.
 use Rattle.std.proofs.Common.{◌≡◌, ◌⊎◌, ◌<◌, ℕ, Bool, true, false, List, sym, ap, subst, inl, inr, arith, ◌∙◌, Option, Some, None}
-use Rattle.std.specs.Prelude.{bytes_eq, IsSome, if◌then◌else◌, ◌&&◌, not}
+use Rattle.std.specs.Prelude.{bytes_eq, if◌then◌else◌, ◌&&◌, not}
 use Rattle.smk_world.specs.declared.event.Node.{Node}
 use Rattle.smk_record.specs.declared.record.Record.{Record}
 use Rattle.smk_record.specs.declared.record.Stamp.{Stamp}

@@ -1,3 +1,4 @@
 mod Again
 mod Filling
 pub mod Alone
+pub mod Loaded

@@ -1,2 +1,3 @@
 pub mod NamedLogs
 pub mod Reading
+pub mod Loaded

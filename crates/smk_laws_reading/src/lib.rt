@@ -1,6 +1,7 @@
 //! Laws of what is read: what each workflow of files has, as the laws of plans ask it, and what the places of its commands are filled with.
 #![tactic(auto)]
 
+ghost use Rattle.smk_laws_reading.specs.Loaded.{LoadedByFiles};
 ghost use Rattle.smk_laws_reading.specs.NamedLogs.{PlacesAreKnown, PlacesFillByName};
 ghost use Rattle.smk_laws_reading.specs.Reading.{ReadFlowsGatherAlone};
 
@@ -17,4 +18,9 @@ pub fn places_are_known()
 /// In a workflow that was read of files an item of inputs that gathers has no texts written out besides.
 pub fn read_workflows_gather_alone()
     ensures { ReadFlowsGatherAlone }
+{}
+
+/// What is loaded of a folder is told by the files that are read: the workflow's file and its includes, and the configurations that they name.
+pub fn workflows_are_told_by_their_files()
+    ensures { LoadedByFiles }
 {}

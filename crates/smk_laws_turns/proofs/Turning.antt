@@ -23,7 +23,7 @@ use Rattle.smk_run.specs.Closings.{wait_event}
 use Rattle.smk_drive.specs.Moments.{Begun, Rules, begun_of, ending, seen}
 use Rattle.smk_drive_step.specs.declared.children.Child.{Child}
 use Rattle.smk_drive_step.specs.Crews.{IsPutFor, goings, is_device, or_later}
-use Rattle.smk_drive_course.specs.Stands.{AtRest, Between, GoesBy, GoesOn, IsRefused, IsReplanned, LacksMemory, NoneLeft, Refuses, Stand, WasHalted, ended_if, first_fault, is_job_of, moment_of, with_job, without_child}
+use Rattle.smk_drive_course.specs.Stands.{AtRest, Between, IsReplanned, Stand, ended_if, first_fault, is_job_of, moment_of, with_job, without_child}
 use Rattle.smk_drive_course.specs.Stands as stands
 use Rattle.smk_drive_course.specs.Steps.{AreRemoved, Deed, IsWaitFor, NoMore, OneMore, Started}
 use Rattle.smk_drive_course.specs.Breaks.{Begins, BeginsNot, BreaksOff, Closes, Done, FailsToWait, Halts, Leaves, ReadsNot, Spends, SpendsNot, Step, Then, Waits}

@@ -18,7 +18,6 @@ use Rattle.smk_chain_sight.specs.Disk.{IsOwnedCovered}
 use Rattle.smk_trigger.specs.declared.reason.State.{State}
 use Rattle.smk_trigger.specs.JobStates.{is_restore}
 use Rattle.smk_pick.specs.declared.settings.Settings.{Settings}
-use Rattle.smk_plan.specs.declared.fault.PlanFault.{PlanFault}
 use Rattle.smk_plan.specs.declared.seen.Sight.{Sight}
 use Rattle.smk_plan.specs.States.{test_some}
 use Rattle.smk_plan_facts.specs.Facts.{told_sources}

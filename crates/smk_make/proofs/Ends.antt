@@ -1,5 +1,5 @@
 -- What is left of the device and the sink once what was planned is made.
-use Rattle.std.proofs.Common.{◌≡◌, ◌⊎◌, ◌≤◌, ℕ, Bool, true, false, List, [], inl, inr, refl, sym, ap, subst, ◌∙◌, Option, Result, Ok, Err, arith, true≢false}
+use Rattle.std.proofs.Common.{◌≡◌, ◌⊎◌, ◌≤◌, ℕ, Bool, true, false, List, [], inl, inr, refl, sym, ap, subst, ◌∙◌, Result, Ok, Err, arith, true≢false}
 use Rattle.std.specs.Prelude.{IsSome}
 use Rattle.smk_world.specs.Calls.{HasCause, Rose}
 use Rattle.smk_world.specs.Devices.{Device, Sunk}
@@ -13,15 +13,14 @@ use Rattle.smk_store.specs.Stores.{Known}
 use Rattle.smk_trigger.specs.declared.reason.State.{State}
 use Rattle.smk_report.specs.declared.fault.Fault.{Fault}
 use Rattle.smk_report.specs.declared.fault.Fault.TheVariants as fault
-use Rattle.smk_plan.specs.declared.duty.Duty.{Duty}
 use Rattle.smk_run.specs.declared.tally.Tally.{Tally}
-use Rattle.smk_run.specs.Duties.{Due, due}
+use Rattle.smk_run.specs.Duties.{Due}
 use Rattle.smk_run.specs.Turns.{Turn}
 use Rattle.smk_run.specs.Runs.{IsOutcome, is_output, is_device, is_output_fault, is_device_fault}
 use Rattle.smk_run.proofs.Rising.{rose_earlier}
 use Rattle.smk_run.proofs.Running.{device_outcome}
 use Rattle.smk_report.specs.Faults.{of_store}
-use Rattle.smk_make.specs.Making.{Concludes, HasMade, HasCarriedOut, GoesOn, NotFirm, NoMemory, Made}
+use Rattle.smk_make.specs.Making.{Concludes, HasCarriedOut, GoesOn, NotFirm, NoMemory, Made}
 use Rattle.smk_make.proofs.Counting.{first_status}
 use Rattle.smk_make.proofs.Made.{verdict, of_report_quiet}
 

@@ -1,5 +1,5 @@
 -- What is kept by name.
-use Rattle.std.proofs.Common.{◌≡◌, ℕ, zero, suc, ◌+◌, ◌<◌, ◌≤◌, ◌==◌, ◌&&◌, List, [], ◌∷◌, ◌++◌, length, map, filter, not, cond, Bool, true, false, Option, Some, None, option_map, is_some, Bor, refl, sym, ap, subst, ◌∙◌, arith, length-append, append-nil, append_assoc, true≢false, bytes_eq, nat_le, take, drop, get_or, take-append-drop, slice_get, ap₂}
+use Rattle.std.proofs.Common.{◌≡◌, ℕ, zero, suc, ◌+◌, ◌<◌, ◌≤◌, ◌==◌, ◌&&◌, List, [], ◌∷◌, ◌++◌, length, map, filter, not, cond, Bool, true, false, Option, Some, None, option_map, is_some, Bor, refl, sym, ap, subst, ◌∙◌, arith, length-append, append-nil, true≢false, bytes_eq, nat_le, take, drop, get_or, take-append-drop, slice_get, ap₂}
 use Rattle.std.specs.BTreeMap.{BTreeMap, get_by}
 use Rattle.std.specs.Map.{update}
 use Rattle.std.specs.Cmp.Lexicographic.{slice_cmp}
@@ -17,8 +17,8 @@ use Rattle.smk_pattern.specs.Grammar.{Piece, plain, hole, inline_limits, given_l
 use Rattle.smk_pattern.specs.Reading.{place_of, names_in, value}
 use Rattle.smk_pattern.specs.Written.{is_single, with_name, wildcard_by, AreAllLimits, IsFirstBad}
 use Rattle.smk_pattern.specs.Splitting.{written_of, all_written}
-use Rattle.smk_pattern.specs.ByName.{place_at, text_at, found_place, AreNames, first_of, or_text, AreInline, AddsInline}
-use Rattle.smk_pattern.proofs.Names.{lacks, place_le, place_in, place_out, place_here, found_at, lacks_more_same, lacks_more_other, not_same}
+use Rattle.smk_pattern.specs.ByName.{place_at, text_at, found_place, AreNames, first_of, or_text, AreInline}
+use Rattle.smk_pattern.proofs.Names.{lacks, place_in, place_out, place_here, found_at, lacks_more_same, lacks_more_other, not_same}
 
 -- ---- tests
 

@@ -1,5 +1,5 @@
 -- The least length of a path that a pattern gives.
-use Rattle.std.proofs.Common.{◌≡◌, ℕ, zero, suc, ◌+◌, ◌<◌, ◌≤◌, List, [], ◌∷◌, ◌++◌, length, take, drop, get_or, Bool, IsTrue, ◌↔◌, sym, ap, subst, ◌∙◌, arith, length-append, true, nat_lt}
+use Rattle.std.proofs.Common.{◌≡◌, ℕ, zero, suc, ◌+◌, ◌<◌, ◌≤◌, List, [], ◌∷◌, ◌++◌, length, take, drop, get_or, ◌↔◌, sym, ap, subst, ◌∙◌, arith, length-append, true, nat_lt}
 use Rattle.std.proofs.lemmas.Bool.Decides.{nat_tests}
 use Rattle.std.proofs.lemmas.List.{append_cancel_left, at_drop_more}
 use Rattle.smk_pattern.specs.declared.pattern.Piece.{Piece}

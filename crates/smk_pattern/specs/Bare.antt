@@ -1,5 +1,5 @@
 -- Texts of patterns without what stands in their wildcards besides names.
-use Rattle.std.specs.Prelude.{List, [], ◌∷◌, ◌++◌, if◌then◌else◌}
+use Rattle.std.specs.Prelude.{[], ◌∷◌, ◌++◌, if◌then◌else◌}
 use Rattle.std.specs.List.{flat_map}
 use Rattle.smk_pattern.specs.Shapes.{Text}
 use Rattle.smk_pattern.specs.Grammar.{Piece, plain, hole, is_balanced}

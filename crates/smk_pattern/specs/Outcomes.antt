@@ -1,5 +1,5 @@
 -- What steps of the search have come to.
-use Rattle.std.specs.Prelude.{◌≡◌, ℕ, ◌<◌, List, ◌∷◌, length, Bool, true, false, Option, IsUtf8}
+use Rattle.std.specs.Prelude.{◌≡◌, ℕ, ◌<◌, List, ◌∷◌, length, false, Option}
 use Rattle.smk_pattern.specs.declared.table.Vain.{Vain}
 use Rattle.smk_pattern.specs.declared.search.Outcome.{Outcome}
 use Rattle.smk_pattern.specs.declared.search.Outcome.TheVariants.{Ended, On, Again}

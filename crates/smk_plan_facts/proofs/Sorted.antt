@@ -1,5 +1,5 @@
 -- What the tests for rising members tell.
-use Rattle.std.proofs.Common.{◌≡◌, Bool, true, not, ◌||◌, List, sym, ap, ◌∙◌}
+use Rattle.std.proofs.Common.{◌≡◌, true, not, ◌||◌, List, sym, ap, ◌∙◌}
 use Rattle.std.specs.List.{list_all}
 use Rattle.smk_world.specs.Trees.{Each}
 use Rattle.smk_record.specs.Records.{are_rising}

@@ -1,16 +1,16 @@
 -- What stays where a job begins or is closed, or an output is removed.
-use Rattle.std.proofs.Common.{◌≡◌, ℕ, zero, suc, Bool, true, false, ◌&&◌, ◌||◌, not, List, [], ◌∷◌, ◌++◌, length, Option, Some, None, is_some, refl, sym, ap, ap₂, subst, ◌∙◌, bytes_eq}
+use Rattle.std.proofs.Common.{◌≡◌, ℕ, zero, suc, Bool, true, false, ◌&&◌, ◌||◌, List, [], ◌∷◌, ◌++◌, length, Option, Some, None, is_some, refl, sym, ap, ap₂, subst, ◌∙◌, bytes_eq}
 use Rattle.std.specs.Prelude.{if◌then◌else◌, slice_set, slice_index_or}
-use Rattle.std.specs.List.{list_any, slice_get}
+use Rattle.std.specs.List.{slice_get}
 use Rattle.std.specs.BTreeMap.{get_by_text}
 use Rattle.std.proofs.Math.Nat.{zero-add}
-use Rattle.smk_base.proofs.Under.{never_both, false_unless}
+use Rattle.smk_base.proofs.Under.{never_both}
 use Rattle.smk_world.specs.World.{out_paths}
 use Rattle.smk_world.specs.Trees.{Path, among, first, outs_of}
 use Rattle.smk_pattern.specs.Reading.{or_empty}
 use Rattle.smk_flow.specs.declared.job.Job.{Job}
 use Rattle.smk_store.specs.declared.store.Entry.{Entry}
-use Rattle.smk_store.specs.Stores.{Known, entry_of}
+use Rattle.smk_store.specs.Stores.{entry_of}
 use Rattle.smk_trigger.specs.declared.reason.State.{State}
 use Rattle.smk_trigger.specs.JobStates.{is_restore}
 use Rattle.smk_plan.specs.declared.seen.Sight.{Sight}

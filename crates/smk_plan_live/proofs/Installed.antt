@@ -6,7 +6,7 @@ use Rattle.std.specs.BTreeSet.{contains_text}
 use Rattle.std.specs.List.{list_any, slice_get, AllZip}
 use Rattle.std.proofs.lemmas.Bool.{eqb-true, eqb-false}
 use Rattle.std.proofs.lemmas.Option.{same_Some}
-use Rattle.smk_base.proofs.Under.{never_both, false_unless}
+use Rattle.smk_base.proofs.Under.{false_unless}
 use Rattle.smk_world.specs.declared.recipe.Out.{Out}
 use Rattle.smk_world.specs.World.{out_paths}
 use Rattle.smk_world.specs.Trees.{Path, Each, among, outs_of}
@@ -282,8 +282,8 @@ module _ (p : LivePlan) (n : ℕ) (forced : Bool) (ahead : IsAhead p n forced) (
       new.reasons.items ≡ put_each p.reasons.items (map numbered_reasons change.news.items) →
       new.plan ≡ plan → new.held ≡ held →
       new.flags.outputs ≡ slice_set p.flags.outputs change.number change.outputs → new.flags.makers ≡ change.makers →
-      new.flags.suspects ≡ change.suspects.items → new.table ≡ p.table → new.readers ≡ p.readers → IsLive new
-  installed new plan held each targets now base settings facts reasons told back outputs makers suspects table readers =
+      new.flags.suspects ≡ change.suspects.items → new.table ≡ p.table → new.readers ≡ p.readers → new.commanded ≡ p.commanded → IsLive new
+  installed new plan held each targets now base settings facts reasons told back outputs makers suspects table readers commanded =
       coe 1 0
       (i.
       IsLive
@@ -294,6 +294,7 @@ module _ (p : LivePlan) (n : ℕ) (forced : Bool) (ahead : IsAhead p n forced) (
         held = back i;
         table = table i;
         readers = readers i;
+        commanded = commanded i;
         flags = record { outputs = its i; makers = makers i; suspects = suspects i };
       }))
       (record {
@@ -308,6 +309,7 @@ module _ (p : LivePlan) (n : ℕ) (forced : Bool) (ahead : IsAhead p n forced) (
         flags = λ served. record { outputs = outputs_then served; makers = makers_then served; suspects = doubted_then served };
         readers = ahead.live.readers;
         named = ahead.changed.named;
+        commands = ahead.live.commands;
       })
     where
       its : new.flags.outputs ≡ slice_set p.flags.outputs n change.outputs

@@ -1,5 +1,5 @@
 -- How far jobs have come, by their numbers and by their names.
-use Rattle.std.proofs.Common.{◌≡◌, ◌⊎◌, inl, inr, ℕ, zero, suc, Bool, true, false, cond, ◌||◌, List, [], ◌∷◌, ◌++◌, map, length, Option, Some, None, option_map, refl, sym, ap, ap₂, subst, ◌∙◌, bytes_eq, arith}
+use Rattle.std.proofs.Common.{◌≡◌, ◌⊎◌, inl, inr, ℕ, zero, suc, Bool, true, false, cond, ◌||◌, List, [], ◌∷◌, ◌++◌, map, length, Option, Some, None, option_map, refl, sym, ap, ap₂, ◌∙◌, bytes_eq, arith}
 use Rattle.std.specs.Prelude.{if◌then◌else◌}
 use Rattle.std.specs.List.{find, slice_get}
 use Rattle.std.proofs.lemmas.Option.{same_Some, none-some}
@@ -14,12 +14,11 @@ use Rattle.smk_plan.specs.States.{job_path, kept_state, test_some}
 use Rattle.smk_plan_states.specs.Judged.{with_states}
 use Rattle.smk_plan_states.specs.Served.{AreServed}
 use Rattle.smk_plan_live.specs.declared.base.Base.{Base}
-use Rattle.smk_plan_live.specs.declared.children.Child.{Child}
 use Rattle.smk_plan_live.specs.declared.phase.Phase.{Phase}
 use Rattle.smk_plan_live.specs.Carried.{has_name}
 use Rattle.smk_plan_live.specs.Lives.{AreNamed, IsSound, progress_of}
 use Rattle.smk_plan_live.specs.Now.{joined}
-use Rattle.smk_plan_live.specs.Phases.{begun_in, children_in, has_begun, named, running_in}
+use Rattle.smk_plan_live.specs.Phases.{begun_in, has_begun, running_in}
 use Rattle.smk_plan_live.proofs.Changed.{begun_here, named_in}
 use Rattle.smk_plan_live.proofs.Restoring.{kept_at, one_name}
 use Rattle.smk_plan_live.proofs.Tables.{flipped}

@@ -1,7 +1,6 @@
 -- What is told anew once what is known and seen has changed at the outputs of one job.
-use Rattle.std.proofs.Common.{◌≡◌, ◌⊎◌, inl, inr, ℕ, zero, suc, ◌+◌, Bool, true, false, ◌||◌, ◌==◌, List, [], ◌∷◌, ◌++◌, map, length, Option, Some, None, refl, sym, ap, ap₂, subst, ◌∙◌, arith}
+use Rattle.std.proofs.Common.{◌≡◌, ◌⊎◌, inl, inr, ℕ, zero, suc, ◌+◌, Bool, true, false, ◌||◌, ◌==◌, List, [], ◌∷◌, ◌++◌, map, length, Option, Some, None, refl, sym, ap, subst, ◌∙◌, arith}
 use Rattle.std.specs.Prelude.{if◌then◌else◌, option_map, slice_set}
-use Rattle.std.specs.BTreeSet.{contains_text}
 use Rattle.std.specs.List.{list_any, flat_map, slice_get, AllZip}
 use Rattle.std.specs.Option.{option_and_then}
 use Rattle.std.proofs.lemmas.Bool.{eqb-true, eqb-false, eq-eqb}
@@ -17,28 +16,21 @@ use Rattle.smk_chain.specs.declared.jobs.Maker.{Maker}
 use Rattle.smk_trigger.specs.declared.facts.JobFacts.{JobFacts}
 use Rattle.smk_trigger.specs.declared.reason.Reason.{Reason}
 use Rattle.smk_trigger.specs.Reasons.{reasons_of}
-use Rattle.smk_pick.specs.declared.settings.Settings.{Settings}
 use Rattle.smk_plan.specs.declared.seen.Sight.{Sight}
-use Rattle.smk_plan.specs.States.{makes, test_some}
+use Rattle.smk_plan.specs.States.{test_some}
 use Rattle.smk_plan.specs.Sights.{job_at}
-use Rattle.smk_plan_facts.specs.Facts.{told_sources, IsMade}
-use Rattle.smk_plan_facts.specs.Telling.{directories_of, facts_in, flags_but, forced_by, is_made_in, is_made_of, is_number, is_told_whole, makers_in, nth, outputs_in}
+use Rattle.smk_plan_facts.specs.Facts.{IsMade}
+use Rattle.smk_plan_facts.specs.Telling.{directories_of, facts_in, flags_but, is_made_in, is_made_of, is_number, is_told_whole, makers_in, nth, outputs_in}
 use Rattle.smk_plan_facts.proofs.WholesTold.{nth_map}
-use Rattle.smk_plan_states.specs.Served.{AreApart, AreServed, outputs_of}
 use Rattle.smk_plan_table.specs.declared.suspects.Suspect.{Suspect}
-use Rattle.smk_plan_table.specs.Parts.{IsSuspectOf}
 use Rattle.smk_plan_live.specs.declared.base.Base.{Base}
-use Rattle.smk_plan_live.specs.declared.live.LivePlan.{LivePlan}
 use Rattle.smk_plan_live.specs.declared.renewing.Renewed.{Renewed}
 use Rattle.smk_plan_live.specs.Now.{known_now, seen_now}
-use Rattle.smk_plan_live.specs.Phases.{begun_in}
-use Rattle.smk_plan_live.specs.Same.{paths_in, is_user, AreSameBut, put_each, user_facts, renewed, user_news, reader_news, all_news, numbered_facts, numbered_reasons, users_from, readers_of}
-use Rattle.smk_plan_live.specs.Lives.{AreFlagsNow, AreMakersWhole, facts_now}
-use Rattle.smk_plan_live.specs.Steps.{IsAhead, IsChangeOf, moved, or_no_numbers, readers_at, renewed_at}
-use Rattle.smk_plan_live.proofs.Changed.{get_other}
+use Rattle.smk_plan_live.specs.Same.{paths_in, is_user, AreSameBut, put_each, user_facts, renewed, user_news, reader_news, all_news, numbered_facts, numbered_reasons, users_from}
+use Rattle.smk_plan_live.specs.Lives.{AreMakersWhole}
 use Rattle.smk_plan_live.proofs.Putting.{is_numbered, mapped_at, put_are, put_one}
 use Rattle.smk_plan_live.proofs.Restoring.{at_same}
-use Rattle.smk_plan_live.proofs.Same.{facts_same, user_same, outputs_same, made_same, doubted_same, is_other}
+use Rattle.smk_plan_live.proofs.Same.{facts_same, user_same, outputs_same, made_same}
 
 -- ## News
 

@@ -8,7 +8,7 @@ use Rattle.std.proofs.lemmas.Bool.{eqb-true, eqb-false, eq-eqb}
 use Rattle.std.proofs.lemmas.List.{drop_more, length-append}
 use Rattle.std.proofs.Math.ListN.{get_or}
 use Rattle.std.proofs.lemmas.Option.{same_Some, none-some}
-use Rattle.smk_base.specs.Path.{is_under, is_at_or_under}
+use Rattle.smk_base.specs.Path.{is_at_or_under}
 use Rattle.smk_base.proofs.Places.{same_place}
 use Rattle.smk_base.proofs.Under.{never_both, or_cases, or_first, or_second}
 use Rattle.smk_world.specs.declared.recipe.Item.{Item}
@@ -23,7 +23,7 @@ use Rattle.smk_plan_live.specs.declared.base.Base.{Base}
 use Rattle.smk_plan_live.specs.declared.sites.Site.{Site}
 use Rattle.smk_plan_live.specs.Lives.{IsSound}
 use Rattle.smk_plan_live.specs.Readers.{ends_with, with_last, reading, is_here, stands_at, stands_over, reads_from, readers_from}
-use Rattle.smk_plan_live.specs.Same.{is_over, is_user, paths_in, readers_of, users_from}
+use Rattle.smk_plan_live.specs.Same.{is_over, paths_in, readers_of, users_from}
 use Rattle.smk_plan_live.proofs.Tables.{flipped, same_bytes}
 use Rattle.smk_plan_live.proofs.Restoring.{any_at, one_job, outs_are, site_found, site_has}
 use Rattle.smk_plan_live.proofs.Same.{any_parts, over_at}

@@ -5,6 +5,7 @@ pub mod Now
 pub mod Same
 pub mod Carried
 pub mod Agreeing
+pub mod Commands
 pub mod Lives
 pub mod Changes
 pub mod Steps

@@ -1,5 +1,5 @@
 -- What is true of each plan that is kept, whatever was called.
-use Rattle.std.specs.Prelude.{◌≡◌, ℕ, Bool, true, false, List, [], map, length, Option, Some, None}
+use Rattle.std.specs.Prelude.{◌≡◌, ℕ, Bool, true, false, List, [], map, length, Some, None}
 use Rattle.std.specs.List.{list_all, slice_get, AllZip}
 use Rattle.std.specs.BTreeMap.{get_by_text}
 use Rattle.std.specs.BTreeSet.{contains_text}
@@ -29,6 +29,7 @@ use Rattle.smk_plan_live.specs.declared.lending.Lent.{Lent}
 use Rattle.smk_plan_live.specs.declared.live.LivePlan.{LivePlan}
 use Rattle.smk_plan_live.specs.Agreeing.{AgreesNow}
 use Rattle.smk_plan_live.specs.Carried.{has_name}
+use Rattle.smk_plan_live.specs.Commands.{has_command}
 use Rattle.smk_plan_live.specs.Phases.{begun_in, has_begun, progress_in}
 use Rattle.smk_plan_live.specs.Sites.{site_in}
 use Rattle.smk_plan_live.specs.Same.{readers_of}
@@ -114,7 +115,7 @@ pub record AreLentNow (settings : Settings) (b : Base) (rows : Lent) (makers : L
   pub doubted : AllZip (IsSuspectOf (known_now b) (seen_now b) settings.bounds) b.jobs.jobs suspects
 
 -- What is true of each plan that is kept: its base is sound; there is a state for each job, and it is told of each target whether it is current; the jobs are
--- judged by what is known and was seen now; what it tells is by the definitions; and what it keeps by numbers is so.
+-- judged by what is known and was seen now; what it tells is by the definitions; what it keeps by numbers is so; and where all are seen to have commands they have.
 pub record IsLive (p : LivePlan) : Type 0 where
   pub sound : IsSound p.base
   -- each input of a job is a path
@@ -128,3 +129,4 @@ pub record IsLive (p : LivePlan) : Type 0 where
   pub flags : AreServed p.base.jobs p.settings.targets → AreFlagsNow p.settings p.base p.flags
   pub readers : AreServed p.base.jobs p.settings.targets → p.readers.items ≡ readers_of p.base.jobs.jobs
   pub named : AreNamed p.base
+  pub commands : p.commanded ≡ true → list_all (has_command p.settings.cores) p.base.jobs.jobs ≡ true

@@ -8,6 +8,7 @@ ghost use Rattle.smk_plan_live.specs.Changes.{IsGrownBut, HasGrown, IsRefusedGro
 use crate::LivePlan;
 use crate::base::Base;
 use crate::carried::rows_from;
+use crate::commands::are_seen;
 use crate::later::late_of;
 use crate::new::{Kept, Told, told_of};
 use crate::sites::sited_of;
@@ -82,6 +83,9 @@ impl LivePlan {
                     flags,
                     readers,
                 } = kept;
+                let jobs = next.jobs.jobs.as_slice();
+                let states = plan.states.as_slice();
+                let commanded = are_seen(alloc, self.settings.cores, jobs, states);
                 self.base = next;
                 self.facts = facts;
                 self.reasons = reasons;
@@ -90,6 +94,7 @@ impl LivePlan {
                 self.table = table;
                 self.flags = flags;
                 self.readers = readers;
+                self.commanded = commanded;
                 Ok(())
             }
         }

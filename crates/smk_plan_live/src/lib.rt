@@ -10,6 +10,7 @@ mod beginning;
 mod carried;
 mod children;
 mod closing;
+mod commands;
 mod copies;
 mod flags;
 mod growing;

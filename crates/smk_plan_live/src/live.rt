@@ -1,7 +1,7 @@
 //! A plan that is kept, and what it tells.
 
-ghost use Rattle.std.specs.Prelude.{◌≡◌, option_map};
-ghost use Rattle.std.specs.List.{slice_get};
+ghost use Rattle.std.specs.Prelude.{◌≡◌, option_map, true};
+ghost use Rattle.std.specs.List.{list_all, slice_get};
 ghost use Rattle.smk_store.specs.Images.{Image};
 ghost use Rattle.smk_plan_states.specs.Judged.{any_held_back};
 ghost use Rattle.smk_plan_table.specs.Plans.{HasMadeAt};
@@ -33,6 +33,8 @@ pub struct LivePlan {
     pub(crate) flags: Flags,
     /// For each job the numbers of those that read at or under one of its outputs, rising.
     pub(crate) readers: Vec<List<usize>>,
+    /// Whether all jobs are seen to have commands.
+    pub(crate) commanded: bool,
 }
 
 impl LivePlan {
@@ -40,6 +42,7 @@ impl LivePlan {
     ghost use Rattle.smk_plan_states.specs.Tables.{IsTableOf};
     ghost use Rattle.smk_plan_states.specs.Served.{AreServed};
     ghost use Rattle.smk_plan_live.specs.Now.{output_entry, sight_now};
+    ghost use Rattle.smk_plan_live.specs.Commands.{has_command};
 
     /// The plan of this moment: the states of the jobs, which targets are current, and the listings that have become known. It takes no memory.
     pub fn as_plan(&self) -> &Plan
@@ -126,6 +129,15 @@ impl LivePlan {
             → AreMakersWhole self.now.base result.now }
     {
         self.flags.makers.as_slice()
+    }
+
+    /// Whether all jobs are seen to have commands, however many of them are to run: then nothing will be refused of a command until new jobs come. It takes
+    /// no memory.
+    pub fn has_commands(&self) -> bool
+        ensures value { result ≡ self.now.commanded }
+        ensures now { IsLive self.now → result ≡ true → list_all (has_command self.now.settings.cores) self.now.base.jobs.jobs ≡ true }
+    {
+        self.commanded
     }
 
     /// What is known of an output of the jobs: what the last closing of its job gave, or else what the store of the call that brought the job has. None where the

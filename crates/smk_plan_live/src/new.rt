@@ -13,6 +13,7 @@ ghost use Rattle.smk_plan_live.specs.Changes.{IsFirst};
 use crate::LivePlan;
 use crate::base::Base;
 use crate::carried::first_rows;
+use crate::commands::are_seen;
 use crate::flags::Flags;
 use crate::lending::lend;
 use crate::readers::readers_of;
@@ -222,6 +223,8 @@ fn over<Rt: Threads + Sync>(
         Err(fault) => Err(fault),
         Ok(told) => {
             let Told { kept, plan, held } = told;
+            let jobs = base.jobs.jobs.as_slice();
+            let commanded = are_seen(alloc, settings.cores, jobs, plan.states.as_slice());
             Ok(LivePlan {
                 base,
                 settings,
@@ -232,6 +235,7 @@ fn over<Rt: Threads + Sync>(
                 table: kept.table,
                 flags: kept.flags,
                 readers: kept.readers,
+                commanded,
             })
         }
     }

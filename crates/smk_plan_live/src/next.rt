@@ -226,6 +226,7 @@ impl LivePlan {
         ensures makers { self.new.flags.makers ≡ next.change.makers }
         ensures suspects { self.new.flags.suspects ≡ next.change.suspects.items }
         ensures paths { (self.new.table ≡ self.old.table) × (self.new.readers ≡ self.old.readers) }
+        ensures commands { self.new.commanded ≡ self.old.commanded }
     {
         let Next { change, plan, held } = next;
         let Change {

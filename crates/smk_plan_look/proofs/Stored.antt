@@ -1,11 +1,11 @@
 -- What a store tells of sources and of their records.
-use Rattle.std.proofs.Common.{◌≡◌, inl, inr, ℕ, Bool, true, false, ◌&&◌, not, List, [], ◌∷◌, ◌||◌, refl, sym, ap, ◌∙◌, Option, Some, None, bytes_eq}
+use Rattle.std.proofs.Common.{◌≡◌, inl, inr, Bool, true, false, ◌&&◌, not, List, [], ◌∷◌, ◌||◌, refl, sym, ap, ◌∙◌, Option, Some, None, bytes_eq}
 use Rattle.std.specs.Prelude.{is_some, if◌then◌else◌, option_map}
 use Rattle.std.specs.List.{list_any}
 use Rattle.std.proofs.lemmas.Bool.{true≢false}
 use Rattle.std.proofs.lemmas.Option.{same_Some, none-some}
-use Rattle.smk_base.proofs.Places.{and_first, and_second, place_itself}
-use Rattle.smk_base.proofs.Under.{false_of_not, never_both, or_first, or_second}
+use Rattle.smk_base.proofs.Places.{and_second, place_itself}
+use Rattle.smk_base.proofs.Under.{false_of_not, or_first, or_second}
 use Rattle.smk_world.specs.declared.event.Node.{Node}
 use Rattle.smk_world.specs.declared.event.Node.TheVariants.{Regular, Directory}
 use Rattle.smk_world.specs.World.{is_named}

@@ -7,7 +7,7 @@ use Rattle.smk_base.proofs.Places.{same_place, same_flipped}
 use Rattle.smk_world.specs.declared.recipe.Item.{Item}
 use Rattle.smk_world.specs.declared.recipe.Out.{Out}
 use Rattle.smk_world.specs.declared.recipe.OutItem.{OutItem}
-use Rattle.smk_world.specs.World.{in_paths, out_paths, is_named}
+use Rattle.smk_world.specs.World.{in_paths, is_named}
 use Rattle.smk_world.specs.Trees.{Path, among}
 use Rattle.smk_record.specs.declared.record.Record.{Record}
 use Rattle.smk_record.specs.declared.record.Stamp.{Stamp}
@@ -21,7 +21,7 @@ use Rattle.smk_trigger.specs.Reasons.{held}
 use Rattle.smk_plan.specs.declared.seen.Sight.{Sight}
 use Rattle.smk_plan.specs.States.{test_some}
 use Rattle.smk_plan.specs.Summed.{has_other_time, needs_sum, kept_in, records_by}
-use Rattle.smk_plan_look.specs.Needs.{time_seen, asks_for, needs_digest, is_other_than, is_touched, is_touched_at, touches, path_touches, item_touches, job_touches, is_due, item_due, job_due}
+use Rattle.smk_plan_look.specs.Needs.{time_seen, needs_digest, is_other_than, is_touched, is_touched_at, touches, path_touches, item_touches, job_touches, is_due, item_due, job_due}
 
 -- ## Lists
 

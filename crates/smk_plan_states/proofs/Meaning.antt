@@ -18,11 +18,11 @@ use Rattle.smk_trigger.specs.declared.reason.State.{State}
 use Rattle.smk_trigger.specs.declared.reason.State.TheVariants.{Open, Dirty, Restore, Clean}
 use Rattle.smk_trigger.specs.JobStates.{is_open, is_dirty, is_clean, is_to_run}
 use Rattle.smk_pick.specs.declared.settings.Settings.{Settings}
-use Rattle.smk_plan.specs.States.{Plan, Progress, HasStates, makes, gathers_from, stands_whole, by_reasons, unless_clean, while_running, test_some, none_or_one, maker_of, made_by, directory_over, awaits, is_input, is_ready, is_at_hand, awaited, is_open_now, is_forced, reasons, makes_awaited, is_temporary, is_wanted_back, is_to_restore, kept_state, is_read_now, state_of}
+use Rattle.smk_plan.specs.States.{Plan, Progress, HasStates, makes, gathers_from, stands_whole, by_reasons, unless_clean, while_running, test_some, none_or_one, maker_of, directory_over, awaits, is_input, is_at_hand, awaited, is_open_now, reasons, makes_awaited, is_temporary, is_wanted_back, is_to_restore, kept_state, is_read_now, state_of}
 use Rattle.smk_plan_states.specs.Judged.{with_states}
 use Rattle.smk_plan_states.specs.Parts.{gone_outputs}
 use Rattle.smk_plan_states.specs.First.{is_always_wanted, is_kept, first_state, unless_needed}
-use Rattle.smk_laws_plan.proofs.CurrentLists.{In, in_left, in_right, in_either, in_flat, in_map, map_in, in_filter, filter_in, find_in, any_from, any_in, or_cases, or_first, or_second, clash_of, none_some}
+use Rattle.smk_laws_plan.proofs.CurrentLists.{In, in_left, in_right, in_flat, in_map, map_in, in_filter, filter_in, find_in, any_from, any_in, or_cases, or_first, clash_of}
 use Rattle.smk_laws_plan.proofs.CurrentPaths.{among_in, in_among, touch_overlaps}
 use Rattle.smk_laws_plan.proofs.CurrentApart.{Apart, JobsApart, maker_found, apart_same, own_apart}
 use Rattle.smk_laws_plan.proofs.CurrentChosen.{paths_are, folders_paths}

@@ -19,7 +19,7 @@ use Rattle.smk_chain.specs.Derive.{Listings, listing}
 use Rattle.smk_trigger.specs.declared.reason.State.{State}
 use Rattle.smk_trigger.specs.JobStates.{is_open, is_dirty, is_clean}
 use Rattle.smk_pick.specs.declared.settings.Settings.{Settings}
-use Rattle.smk_plan.specs.States.{Progress, HasStates, makes, gathers_from, stands_whole, test_some, none_or_one, made_by, directory_over, awaits, is_input, is_ready, is_at_hand, awaited, is_open_now, maker_of}
+use Rattle.smk_plan.specs.States.{Progress, HasStates, makes, gathers_from, stands_whole, test_some, none_or_one, made_by, directory_over, awaits, is_input, is_ready, is_at_hand, awaited, is_open_now}
 use Rattle.smk_plan.specs.Sights.{job_at}
 use Rattle.smk_plan_states.specs.Shapes.{Directory, Parts, Site}
 use Rattle.smk_plan_states.specs.Served.{IsToldOf, IsBelow, ReadEarlier}

@@ -1,5 +1,5 @@
 -- How paths are looked up while a table of states is made.
-use Rattle.std.specs.Prelude.{◌≡◌, ℕ, suc, zero, Bool, ◌||◌, List, [], ◌∷◌, ◌++◌, map, bytes_eq, if◌then◌else◌, Option, Some, None}
+use Rattle.std.specs.Prelude.{◌≡◌, ℕ, suc, Bool, ◌||◌, List, [], ◌∷◌, ◌++◌, map, bytes_eq, if◌then◌else◌, Option, Some, None}
 use Rattle.std.specs.List.{find, slice_get}
 use Rattle.std.specs.Option.{option_and_then}
 use Rattle.std.specs.BTreeSet.{contains_text}
@@ -8,7 +8,6 @@ use Rattle.smk_world.specs.declared.recipe.Out.{Out}
 use Rattle.smk_world.specs.Trees.{Path, among, outs_of, is_folder_kind}
 use Rattle.smk_flow.specs.declared.job.Job.{Job}
 use Rattle.smk_chain.specs.declared.jobs.Jobs.{Jobs}
-use Rattle.smk_chain.specs.declared.jobs.Maker.{Maker}
 use Rattle.smk_plan_states.specs.declared.folders.Folder.{Folder}
 use Rattle.smk_plan_states.specs.declared.lines.Input.{Input}
 use Rattle.smk_plan_states.specs.declared.ways.Ways.{Ways}

@@ -1,7 +1,7 @@
 -- From the digests of sources to the stamps of inputs.
 use Rattle.std.proofs.Common.{◌≡◌, ℕ, ◌^◌, true, List, [], ◌∷◌, ◌++◌, length, refl, ap, ◌∙◌, arith, Option, Some, None}
 use Rattle.std.specs.Prelude.{nat_lt}
-use Rattle.std.specs.List.{AllZip, list_all}
+use Rattle.std.specs.List.{list_all}
 use Rattle.std.proofs.lemmas.Bool.{and_from}
 use Rattle.smk_base.proofs.Places.{and_first, and_second}
 use Rattle.smk_base.specs.declared.sum.Sum.{Sum as Digest}

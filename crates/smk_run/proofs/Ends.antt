@@ -1,8 +1,7 @@
 -- What a function did with a device, told otherwise.
-use Rattle.std.proofs.Common.{◌≡◌, ◌≤◌, inl, inr, ℕ, Bool, true, false, List, [], ◌++◌, refl, sym, ◌∙◌, Option, arith}
+use Rattle.std.proofs.Common.{◌≡◌, ◌≤◌, Bool, false, List, [], ◌++◌, refl, ◌∙◌, Option, arith}
 use Rattle.smk_world.specs.declared.event.Event.{Event}
 use Rattle.smk_world.specs.World.{World, run}
-use Rattle.smk_world.specs.Calls.{Rose}
 use Rattle.smk_world.specs.Devices.{Device, HasActed, HasEnded}
 use Rattle.smk_world.specs.Runs.{Did, Follows}
 use Rattle.smk_world.specs.Trees.{Act}

@@ -1,5 +1,5 @@
 -- From the looks and reads at a job's inputs to their stamps with digests.
-use Rattle.std.proofs.Common.{◌≡◌, ◌≢◌, ℕ, Bool, false, true, List, [], ◌∷◌, ◌++◌, length, refl, ap, sym, subst, ◌∙◌, inl, inr, Option, Some, None, Result, Ok, Err}
+use Rattle.std.proofs.Common.{◌≡◌, ◌≢◌, ℕ, Bool, false, true, List, [], ◌∷◌, ◌++◌, length, refl, ap, sym, subst, ◌∙◌, inl, inr, Option, Some, None, Ok, Err}
 use Rattle.std.specs.List.{AllZip}
 use Rattle.smk_base.specs.declared.sum.Sum.{Sum as Digest}
 use Rattle.smk_world.specs.declared.event.Event.{Event}
@@ -19,7 +19,7 @@ use Rattle.smk_run.specs.declared.stop.Stop.{Stop}
 use Rattle.smk_run.specs.declared.stop.Stop.TheVariants.{TooLong, Gone, Device as DeviceStop, Output, OutOfMemory}
 use Rattle.smk_run.specs.Stamps.{Serials, IsStamped, AreStamped, HasStamped, is_of_look}
 use Rattle.smk_run.specs.Digesting.{HasInputs, HasReadPart, AreDigested, sources_among, sum_stop, summed}
-use Rattle.smk_run.specs.Reports.{is_device, is_device_stop}
+use Rattle.smk_run.specs.Reports.{is_device_stop}
 use Rattle.smk_run.proofs.Digested.{are_digested}
 use Rattle.smk_run.proofs.Stamping.{all_part}
 

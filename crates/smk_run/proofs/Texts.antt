@@ -1,5 +1,5 @@
 -- What is put, and the lines of one job.
-use Rattle.std.proofs.Common.{◌≡◌, ℕ, Bool, true, false, [], ◌++◌, take, drop, length, refl, ap, sym, subst, ◌∙◌, Result, Ok, Err, arith, append_assoc, true≢false}
+use Rattle.std.proofs.Common.{◌≡◌, Bool, true, false, [], ◌++◌, take, drop, refl, ap, sym, subst, ◌∙◌, Result, Ok, Err, arith, append_assoc, true≢false}
 use Rattle.std.specs.Prelude.{is_ok, is_err}
 use Rattle.std.proofs.lemmas.List.{append-nil, take_all, take-append-drop}
 use Rattle.smk_world.specs.Calls.{Rose}

@@ -7,7 +7,7 @@ use Rattle.smk_world.specs.Devices.{AreLooks}
 use Rattle.smk_world.specs.Trees.{Path}
 use Rattle.smk_world.specs.World.{World}
 use Rattle.smk_record.specs.declared.record.Stamp.{Stamp}
-use Rattle.smk_record.specs.declared.record.Stamp.TheVariants.{Time, Sum, Made}
+use Rattle.smk_record.specs.declared.record.Stamp.TheVariants.{Time, Sum}
 use Rattle.smk_record.specs.Spelling.{is_sum}
 use Rattle.smk_digest.specs.Digests.{IsSum}
 use Rattle.smk_digest.specs.declared.fault.SumFault.{SumFault}

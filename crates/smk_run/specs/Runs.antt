@@ -3,7 +3,7 @@ use Rattle.std.specs.Prelude.{◌≡◌, ◌⊎◌, ◌≤◌, ℕ, Bool, true, 
 use Rattle.std.specs.List.{count_by}
 use Rattle.smk_base.specs.declared.tree.Pair.{Pair}
 use Rattle.smk_world.specs.declared.recipe.Recipe.{Recipe}
-use Rattle.smk_world.specs.World.{World, in_paths, out_paths, owned_paths}
+use Rattle.smk_world.specs.World.{in_paths, out_paths, owned_paths}
 use Rattle.smk_world.specs.Calls.{are_apart}
 use Rattle.smk_world.specs.Devices.{Device, Sunk, HasEnded}
 use Rattle.smk_world.specs.Trees.{Act, Each, is_path_text}

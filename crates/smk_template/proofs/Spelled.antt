@@ -1,10 +1,10 @@
 -- A template is spelled by its symbols.
-use Rattle.std.proofs.Common.{◌≡◌, ℕ, zero, suc, ◌==◌, ◌<◌, Bool, true, false, cond, List, [], ◌∷◌, ◌++◌, take, drop, get_or, refl, ap, sym, ◌∙◌, append_assoc, arith}
+use Rattle.std.proofs.Common.{◌≡◌, ℕ, zero, suc, ◌==◌, ◌<◌, Bool, true, false, cond, List, [], ◌∷◌, ◌++◌, take, drop, get_or, refl, ap, sym, ◌∙◌, arith}
 use Rattle.std.proofs.lemmas.Bool.Decides.{nat_tests}
 use Rattle.std.proofs.lemmas.Bool.{eqb-true}
 use Rattle.std.proofs.lemmas.List.{take-append-drop}
 use Rattle.smk_template.proofs.Read.{plain_first}
-use Rattle.smk_template.specs.Templates.{Text, Symbol, Plain, Field, Loose, is_brace, first_brace, is_closed, is_doubled, opened, opened_more, undoubled, undoubled_more, symbol_at, more_at, symbols_after, symbols, braced, spelled, template_of}
+use Rattle.smk_template.specs.Templates.{Text, Symbol, Plain, Field, Loose, is_brace, first_brace, is_closed, is_doubled, opened, opened_more, undoubled, undoubled_more, symbol_at, more_at, symbols_after, symbols, spelled, template_of}
 
 -- one more byte, which has this value
 next_byte : (t : Text) (k b : ℕ) → 0 < b → get_or t k 0 ≡ b → take (suc k) t ≡ take k t ++ b ∷ []

@@ -13,7 +13,6 @@ mod trying;
 pub use lines::trial_lines;
 pub use serving::{Generating, asked_generating, serve_generating, tell_fault};
 pub use smk_base::OutOfMemory;
-pub use smk_cli::smk;
 pub use smk_report::Fault;
 pub use telling::tell_trial;
 pub use tried::Trial;

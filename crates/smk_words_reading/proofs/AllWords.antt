@@ -1,5 +1,5 @@
 -- Words are read as they are spelled.
-use Rattle.std.proofs.Common.{◌≡◌, ℕ, Bool, true, false, cond, List, [], ◌∷◌, ◌++◌, map, codes, Option, Some, None, refl, sym, ◌∙◌, ap, subst, IsTrue}
+use Rattle.std.proofs.Common.{◌≡◌, Bool, true, false, cond, List, [], ◌∷◌, ◌++◌, map, codes, Option, Some, None, refl, sym, ◌∙◌, ap, subst, IsTrue}
 use Rattle.std.proofs.lemmas.Bool.{cond-true}
 use Rattle.smk_words_reading.specs.declared.parts.Setting.{Setting}
 use Rattle.smk_words_reading.specs.declared.parts.Part.{Part}

@@ -1,5 +1,5 @@
 -- What words spell.
-use Rattle.std.specs.Prelude.{◌≡◌, ◌≢◌, ℕ, Bool, true, false, ◌&&◌, ◌||◌, not, List, [], ◌∷◌, ◌++◌, length, map, codes, ◌==◌, IsTrue, Option, Some, None}
+use Rattle.std.specs.Prelude.{◌≡◌, ◌≢◌, ℕ, Bool, true, false, ◌&&◌, ◌||◌, not, List, [], ◌∷◌, ◌++◌, length, codes, ◌==◌, IsTrue, Option, Some, None, map}
 use Rattle.smk_words_reading.specs.declared.parts.Flag.{Flag}
 use Rattle.smk_words_reading.specs.declared.parts.Flag.TheVariants.{DryRun, KeepGoing, RerunIncomplete, Force, ForceAll, Unlock, NoLock}
 use Rattle.smk_words_reading.specs.declared.parts.Setting.{Setting}

@@ -16,7 +16,7 @@ use Rattle.smk_world.specs.declared.event.Change.{Change}
 use Rattle.smk_world.specs.declared.event.Child.{Child}
 use Rattle.smk_world.specs.declared.event.Ended.{Ended}
 use Rattle.smk_world.specs.declared.recipe.Recipe.{Recipe}
-use Rattle.smk_world.specs.World.{World, after, node_after, children_after, reading, loose, going, firm, with_folder, with_flag, standing, is_within, is_above, reads_folder, reads_nothing, owned_paths, in_paths, owned_of, owned_by, child_numbered, numbers}
+use Rattle.smk_world.specs.World.{World, after, node_after, children_after, reading, loose, going, firm, with_folder, with_flag, standing, is_within, is_above, reads_folder, reads_nothing, owned_paths, in_paths, owned_of, owned_by, child_numbered}
 use Rattle.smk_world.specs.Calls.{owned_now, used_now, any_overlap, HasOwners}
 use Rattle.smk_world.specs.Folders.{AreInFolders, IsTree, CanHold}
 use Rattle.smk_world.proofs.Folders.{within_under}

@@ -1,9 +1,9 @@
 -- What is owned is so by a running child.
-use Rattle.std.proofs.Common.{◌≡◌, ℕ, Bool, true, false, ◌||◌, not, cond, List, [], ◌∷◌, ◌++◌, refl, ap, sym, subst, ◌∙◌, Option, Some, None, Ok, Err, bytes_eq, arith}
+use Rattle.std.proofs.Common.{◌≡◌, ℕ, Bool, true, false, ◌||◌, not, cond, List, [], ◌∷◌, ◌++◌, refl, ap, sym, subst, ◌∙◌, Option, Some, None, Ok, Err, bytes_eq}
 use Rattle.std.specs.Prelude.{if◌then◌else◌, nat_eq, ◌&&◌, is_some}
 use Rattle.std.specs.List.{filter}
 use Rattle.std.proofs.lemmas.List.{append-nil}
-use Rattle.std.proofs.lemmas.Bool.{ne_eqb, eqb-true, or_right, or_left}
+use Rattle.std.proofs.lemmas.Bool.{eqb-true, or_right, or_left}
 use Rattle.std.proofs.Math.Bool.{or_assoc}
 use Rattle.smk_base.specs.Path.{is_under, is_at_or_under}
 use Rattle.smk_world.specs.declared.event.Node.{Node}
@@ -18,7 +18,7 @@ use Rattle.smk_world.specs.declared.event.Ended.{Ended}
 use Rattle.smk_world.specs.declared.recipe.Recipe.{Recipe}
 use Rattle.smk_world.specs.World.{World, after, node_after, children_after, loose, going, firm, with_folder, with_flag, standing, is_within, is_above, reads_folder, reads_nothing, owned_paths, owned_of, owned_by, child_numbered, numbers}
 use Rattle.smk_world.specs.Calls.{started_number, owned_now, HasOwners}
-use Rattle.smk_world_nodes.specs.Steps.{AllBelow, AllOther, AllDistinct, now_there, step_world}
+use Rattle.smk_world_nodes.specs.Steps.{AllOther, AllDistinct, now_there, step_world}
 use Rattle.smk_world_nodes.specs.declared.step.Step.TheVariants.{Put, Gone}
 use Rattle.smk_world_nodes.proofs.Within.{within_both}
 

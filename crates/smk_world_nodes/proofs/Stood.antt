@@ -1,6 +1,6 @@
 -- Names and folders, one byte and one entry after another.
 use Rattle.std.proofs.Common.{◌≡◌, inl, inr, ℕ, suc, ◌+◌, ◌<◌, Bool, true, false, not, ◌||◌, ◌&&◌, ◌==◌, List, [], ◌∷◌, length, take, get_or, cond, refl, sym, ap, subst, ◌∙◌, Option, Some, None, bytes_eq, string_bytes, String, add-one, arith}
-use Rattle.std.specs.Prelude.{IsSome, is_some, if◌then◌else◌, nat_le}
+use Rattle.std.specs.Prelude.{IsSome, if◌then◌else◌, nat_le}
 use Rattle.std.specs.List.{list_all}
 use Rattle.std.specs.Map.{lookup}
 use Rattle.std.specs.Ordering.{is_eq, nat_cmp}
@@ -8,7 +8,7 @@ use Rattle.std.specs.Cmp.Lexicographic.{slice_cmp}
 use Rattle.std.specs.declared.alloc.Global.{Global}
 use Rattle.std.proofs.lemmas.Bool.{eqb-true, eq-eqb}
 use Rattle.std.proofs.lemmas.Map.Text.{is_eq-slice_cmp}
-use Rattle.smk_base.specs.Path.{parts, to_first, is_under}
+use Rattle.smk_base.specs.Path.{parts, to_first}
 use Rattle.smk_base.proofs.Places.{same_place, and_first, and_second}
 use Rattle.smk_base.proofs.Under.{never_both, false_unless, or_cases}
 use Rattle.smk_world.specs.declared.event.Node.{Node}

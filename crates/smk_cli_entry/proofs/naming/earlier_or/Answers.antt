@@ -1,5 +1,4 @@
 use Rattle.std.proofs.Common.{Ok, ap, sym, subst}
-use Rattle.smk_world.proofs.Devices.{looked_nothing}
 use Rattle.smk_cli_entry.specs.Faults.{Answers}
 use Rattle.smk_cli_entry.specs.Names.{or_else}
 use Rattle.smk_cli_entry.specs.Names.{file_at}

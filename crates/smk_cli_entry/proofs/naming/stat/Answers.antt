@@ -1,4 +1,4 @@
-use Rattle.std.proofs.Common.{Ok, ap, sym, true≢false}
+use Rattle.std.proofs.Common.{Ok, ap, true≢false}
 use Rattle.smk_world.proofs.Devices.{looked_stat}
 use Rattle.smk_cli_entry.proofs.Stats.{stat_seen}
 use Rattle.smk_cli_entry.proofs.naming.stat.Goals as goal

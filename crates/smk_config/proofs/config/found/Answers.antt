@@ -1,6 +1,5 @@
 use Rattle.std.proofs.Common.{◌≡◌, Some, option_map, option_and_then, ap, sym, ◌∙◌}
-use Rattle.serde_json.specs.Find.{get_member}
-use Rattle.serde_json.specs.View.{view, members_view}
+use Rattle.serde_json.specs.View.{view}
 use Rattle.serde_json.proofs.Views.{view-lookup}
 use Rattle.smk_config.specs.Settings.{under}
 use Rattle.smk_config.proofs.config.found.Goals as goal

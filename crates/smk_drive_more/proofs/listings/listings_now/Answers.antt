@@ -1,5 +1,4 @@
 use Rattle.std.proofs.Common.{◌++◌, ◌∙◌}
-use Rattle.smk_plan.specs.declared.plan.Plan.{Plan}
 use Rattle.smk_drive_more.proofs.listings.listings_now.Goals as goal
 
 pub returns-clause-ok : goal.returns-clause-ok

@@ -1,4 +1,4 @@
-use Rattle.std.proofs.Common.{◌≡◌, ◌∙◌, List, map, sym, ap, subst}
+use Rattle.std.proofs.Common.{◌≡◌, ◌∙◌, sym, ap, subst}
 use Rattle.smk_plan.specs.declared.plan.Plan.{Plan as Told}
 use Rattle.smk_plan_states.specs.declared.table.Table.{Table}
 use Rattle.smk_plan_states.specs.Tables.{IsTableAt}

@@ -1,6 +1,6 @@
-use Rattle.std.proofs.Common.{◌≡◌, ◌-◌, ℕ, take, ap, sym, ◌∙◌, arith, string_bytes}
-use Rattle.smk_template.specs.Templates.{symbols, first_brace}
-use Rattle.smk_format.specs.Commands.{first_missing, filled}
+use Rattle.std.proofs.Common.{◌≡◌, ◌-◌, ℕ, take, ap, sym, ◌∙◌, arith}
+use Rattle.smk_template.specs.Templates.{first_brace}
+use Rattle.smk_format.specs.Commands.{filled}
 use Rattle.smk_template.specs.Symbols.{symbol_of}
 use Rattle.smk_format.proofs.Filled.{missing_end, filled_end, missing_found, missing_more, filled_more}
 use Rattle.smk_format.proofs.filling.fill.Goals as goal

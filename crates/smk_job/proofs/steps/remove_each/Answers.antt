@@ -1,4 +1,4 @@
-use Rattle.std.proofs.Common.{[], ◌∷◌, ◌++◌, refl, sym, ap}
+use Rattle.std.proofs.Common.{[], ◌∷◌, ◌++◌, refl, sym}
 use Rattle.smk_world.specs.Requests.Request.{Remove}
 use Rattle.smk_world.proofs.Devices.{carried_as, carried_call, each_cut, each_more}
 use Rattle.smk_job.proofs.steps.remove_each.Goals as goal

@@ -1,14 +1,13 @@
-use Rattle.std.proofs.Common.{◌≡◌, ℕ, length, map, refl, sym, ap, ap₂, subst, ◌∙◌, arith, List, Option, Bor, Some, true, false, ◌==◌, ◌≤◌, vec_len}
+use Rattle.std.proofs.Common.{◌≡◌, ℕ, length, map, sym, ap, ap₂, subst, ◌∙◌, arith, List, Bor, Some, true, false, ◌==◌, ◌≤◌, vec_len}
 use Rattle.std.proofs.lemmas.Bool.{eqb-true}
 use Rattle.std.proofs.lemmas.Bool.Decides.{nat_tests}
 use Rattle.std.proofs.lemmas.List.{length-map}
-use Rattle.std.specs.List.{slice_get, list_all}
 use Rattle.std.specs.BTreeMap.{BTreeMap}
 use Rattle.smk_base.specs.declared.tree.Pair.{Pair}
 use Rattle.smk_pattern.specs.declared.pattern.Wildcard as code
 use Rattle.smk_pattern.specs.declared.by_name.Names.{Names}
 use Rattle.smk_pattern.specs.Shapes.{Text, Part, Wildcard, Shape, IsNumbered}
-use Rattle.smk_pattern.specs.Grammar.{Piece, limit_for, inline_limits, given_limit}
+use Rattle.smk_pattern.specs.Grammar.{Piece, limit_for, inline_limits}
 use Rattle.smk_pattern.specs.Reading.{part_in, names_in, pieces}
 use Rattle.smk_pattern.specs.Pieces.{parts_of, wildcards_of, wildcard_of}
 use Rattle.smk_pattern.specs.Searching.{now_of}

@@ -1,12 +1,11 @@
-use Rattle.std.proofs.Common.{◌≡◌, ◌==◌, IfOk, List, ℕ, [], ◌∷◌, ◌++◌, length, Bool, true, false, refl, sym, ◌∙◌, ap, arith, Option, Result, Ok, Err, vec_len, append-nil, ◌<◌, get_or, Bor, Vec, Global, set, ◌+◌, ◌-◌, take, length-append, None, ◌≤◌, IsUtf8, true≢false, take-append-drop, append_assoc}
+use Rattle.std.proofs.Common.{◌≡◌, ◌==◌, IfOk, List, ℕ, [], ◌∷◌, ◌++◌, length, Bool, true, false, refl, sym, ◌∙◌, ap, arith, Option, vec_len, append-nil, ◌<◌, get_or, Bor, Vec, Global, set, ◌+◌, ◌-◌, take, length-append, None, ◌≤◌, IsUtf8, true≢false, take-append-drop, append_assoc}
 use Rattle.std.proofs.lemmas.Str.{IsUtf8-take, IsUtf8-drop}
 use Rattle.std.proofs.lemmas.Bool.Decides.{nat_tests}
 use Rattle.std.proofs.lemmas.List.{nil_from_length, length-map, map_push, set-get_or, get_or_default, take-map, take_at, length-take-le}
 use Rattle.std.proofs.lemmas.Result.{IfOk-weaker}
 use Rattle.smk_pattern.specs.Shapes.{Part}
 use Rattle.smk_pattern.specs.Shapes.Part.{wild}
-use Rattle.smk_pattern.specs.Fitting.{Suits}
-use Rattle.smk_pattern.specs.Searching.{Searched, Ends, Leads, FitsNowhere, RestFits, IsPlace, now_of, stands_in}
+use Rattle.smk_pattern.specs.Searching.{Searched, RestFits, now_of, stands_in}
 use Rattle.smk_pattern.specs.Pieces.{parts_of, part_of}
 use Rattle.smk_pattern.specs.declared.pattern.Piece.{Piece}
 use Rattle.smk_pattern.proofs.Steps.{found_end, none_end, shorter, no_boundary, no_suit, no_rest, found_wild, leads_known, leads_empty, none_empty, leads_then, leads_ends, searched_ends, cut_back, none_ends}

@@ -1,9 +1,7 @@
-use Rattle.std.proofs.Common.{◌≡◌, ℕ, ◌+◌, suc, [], ◌∷◌, ◌++◌, length, refl, sym, ap, ◌∙◌, arith, append_assoc, append-nil, subst, List}
+use Rattle.std.proofs.Common.{◌≡◌, ◌+◌, [], ◌∷◌, ◌++◌, length, refl, sym, ap, ◌∙◌, append_assoc, append-nil}
 use Rattle.std.proofs.lemmas.List.{nil_from_length}
-use Rattle.smk_pattern.specs.Shapes.{Part}
 use Rattle.smk_pattern.specs.Pieces.{parts_of, part_of}
-use Rattle.smk_pattern.specs.Searching.{AreBehind}
-use Rattle.smk_pattern.proofs.Behind.{IsNoted, noted_more, noted_all}
+use Rattle.smk_pattern.proofs.Behind.{noted_more, noted_all}
 use Rattle.smk_pattern.proofs.search.pieces_behind.Goals as goal
 
 pub places-init : goal.places-init

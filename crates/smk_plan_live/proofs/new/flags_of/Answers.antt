@@ -1,4 +1,4 @@
-use Rattle.std.proofs.Common.{List, map, ap, sym, subst, ◌∙◌}
+use Rattle.std.proofs.Common.{map, ap, sym, ◌∙◌}
 use Rattle.std.specs.List.{AllZip}
 use Rattle.smk_plan_facts.specs.Telling.{outputs_in}
 use Rattle.smk_plan_table.specs.Parts.{IsSuspectOf}

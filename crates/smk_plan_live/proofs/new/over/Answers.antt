@@ -1,3 +1,6 @@
+use Rattle.std.proofs.Common.{ap, sym, ◌∙◌}
+use Rattle.std.specs.List.{list_all}
+use Rattle.smk_plan_live.specs.Commands.{has_command}
 use Rattle.smk_plan_live.proofs.new.over.Goals as goal
 
 pub returns-in-Ok-clause-live : goal.returns-in-Ok-clause-live
@@ -15,6 +18,7 @@ returns-in-Ok-clause-live g c =
       flags = λ served. t.kept.flags;
       readers = t.kept.readers c.requires.sound;
       named = c.requires.named;
+      commands = λ h. ap (list_all (has_command c.args.settings.cores)) (sym c.as_slice-jobs.ensures) ∙ c.are_seen-commanded.ensures h;
     }
 
 pub returns-in-Err-clause-refused : goal.returns-in-Err-clause-refused

@@ -1,4 +1,4 @@
-use Rattle.std.proofs.Common.{ap, sym, ◌∙◌}
+use Rattle.std.proofs.Common.{ap, ◌∙◌}
 use Rattle.smk_world.specs.Calls.{device_failed}
 use Rattle.smk_world.proofs.Devices.{looked_as}
 use Rattle.smk_plan.specs.declared.seen.Seen.{Seen}

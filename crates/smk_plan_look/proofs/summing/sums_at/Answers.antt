@@ -1,4 +1,4 @@
-use Rattle.std.proofs.Common.{ap, sym, ◌∙◌, List, Option}
+use Rattle.std.proofs.Common.{ap, ◌∙◌, List, Option}
 use Rattle.smk_base.specs.declared.sum.Sum.{Sum as Digest}
 use Rattle.smk_digest.specs.Digests.{sum_failed}
 use Rattle.smk_world.proofs.Devices.{looked_as}

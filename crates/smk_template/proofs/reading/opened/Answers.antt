@@ -1,6 +1,6 @@
-use Rattle.std.proofs.Common.{◌≡◌, ℕ, ◌+◌, ◌-◌, ◌<◌, Bool, true, false, List, [], ◌∷◌, take, drop, length, get_or, ap, sym, ◌∙◌, arith}
+use Rattle.std.proofs.Common.{◌≡◌, ℕ, ◌+◌, ◌-◌, ◌<◌, true, false, [], ◌∷◌, take, drop, get_or, ap, sym, ◌∙◌, arith}
 use Rattle.std.proofs.lemmas.Str.{IsCharBoundary-after_ascii}
-use Rattle.smk_template.specs.Templates.{Text, Symbol, Field, Loose, symbols, first_brace, is_doubled, is_closed}
+use Rattle.smk_template.specs.Templates.{Text, Field, Loose, symbols, first_brace, is_doubled, is_closed}
 use Rattle.smk_template.proofs.Read.{first_and_rest, field_first, unclosed_first, within_by_byte, closed_by_byte, open_by_byte, brace_and}
 use Rattle.smk_template.proofs.reading.opened.Goals as goal
 

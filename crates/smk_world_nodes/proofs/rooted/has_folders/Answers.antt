@@ -1,5 +1,4 @@
 use Rattle.std.proofs.Common.{◌≡◌, ◌<◌, ◌-◌, length, take, get_or, arith, ap, sym, subst, ◌∙◌, true}
-use Rattle.smk_base.specs.Path.{is_under}
 use Rattle.smk_world_nodes.proofs.Above.{is_short_above, all_short}
 use Rattle.smk_world_nodes.proofs.Stood.{at_slash, no_slash}
 use Rattle.smk_world_nodes.proofs.rooted.has_folders.Goals as goal

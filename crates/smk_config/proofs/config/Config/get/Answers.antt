@@ -1,4 +1,4 @@
-use Rattle.std.proofs.Common.{◌≡◌, ℕ, List, [], refl, ap, sym, ◌∙◌, arith}
+use Rattle.std.proofs.Common.{◌≡◌, [], refl, ap, sym, ◌∙◌, arith}
 use Rattle.serde_json.specs.Data.{object}
 use Rattle.smk_config.specs.Settings.{members, under}
 use Rattle.smk_config.proofs.Keys.{nothing}

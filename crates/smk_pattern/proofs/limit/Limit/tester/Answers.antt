@@ -2,7 +2,6 @@ use Rattle.std.proofs.Common.{IfOk}
 use Rattle.smk_pattern.proofs.Meaning.{tester_of}
 use Rattle.smk_pattern.specs.Testers.{IsTesterOf}
 use Rattle.smk_pattern.proofs.limit.Limit.tester.Goals as goal
-use Rattle.std.proofs.Common.{Result, Ok, Err}
 use Rattle.std.proofs.lemmas.Result.{IfOk-weaker}
 
 pub returns : goal.returns

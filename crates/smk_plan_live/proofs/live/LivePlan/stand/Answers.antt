@@ -1,5 +1,7 @@
-use Rattle.std.proofs.Common.{subst, ◌∙◌}
+use Rattle.std.proofs.Common.{ap, sym, subst, ◌∙◌}
+use Rattle.std.specs.List.{list_all}
 use Rattle.smk_plan_live.specs.Carried.{with_seen}
+use Rattle.smk_plan_live.specs.Commands.{has_command}
 use Rattle.smk_plan_live.specs.Lives.{IsLive, IsRefusedNow}
 use Rattle.smk_plan_live.proofs.Grown.{seen_named, seen_sound}
 use Rattle.smk_plan_live.proofs.live.LivePlan.stand.Goals as goal
@@ -31,4 +33,5 @@ returns-in-Ok-clause-live g c =
       flags = λ served. t.kept.flags;
       readers = t.kept.readers sound;
       named = named;
+      commands = λ h. ap (list_all (has_command c.args.self.now.settings.cores)) (sym c.as_slice-jobs.ensures) ∙ c.are_seen-commanded.ensures h;
     }

@@ -1,4 +1,4 @@
-use Rattle.std.proofs.Common.{rules, sym, subst, ◌∙◌}
+use Rattle.std.proofs.Common.{sym, subst, ◌∙◌}
 use Rattle.smk_world_nodes.proofs.Stood.{AllStand, all_in_folders}
 use Rattle.smk_world_nodes.proofs.nodes.Nodes.are_in_folders.Goals as goal
 

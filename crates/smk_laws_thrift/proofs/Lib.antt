@@ -1,0 +1,6 @@
+pub mod Trees
+pub mod Done
+pub mod Touched
+pub mod SameBytes
+pub mod Edited
+pub mod Turned
