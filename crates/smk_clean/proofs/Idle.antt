@@ -30,7 +30,7 @@ use Rattle.smk_drive_course.specs.Steps.{AreRemoved, Deed, GoesByAnswer, IsNext,
 use Rattle.smk_drive_course.specs.Breaks.{Begins, BeginsNot, BreaksOff, Closes, Done, FailsToWait, Halts, Leaves, ReadsNot, Spends, SpendsNot, Step, Steps, Then, Waits}
 use Rattle.smk_laws_moments.proofs.ChildrenOf.{spending_quiet, unspent_quiet}
 use Rattle.smk_laws_moments.proofs.QuietCalls.{IsQuiet, calls_more, looks_quiet}
-use Rattle.smk_laws_changes.proofs.Closing.{follows_split}
+use Rattle.smk_laws_turns.proofs.FolderClosing.{follows_split}
 use Rattle.smk_clean.specs.NothingStarts.{AllAreClean}
 use Rattle.smk_clean.proofs.Removing.{spent_keeps_plan}
 

@@ -19,7 +19,7 @@ use Rattle.smk_drive_course.specs.Steps.{Deed}
 use Rattle.smk_drive_course.specs.Driven.{IsRun}
 use Rattle.smk_laws_moments.proofs.ChildrenOf.{opening_quiet}
 use Rattle.smk_laws_moments.proofs.QuietCalls.{IsQuiet, calls_more}
-use Rattle.smk_laws_changes.proofs.Closing.{follows_split}
+use Rattle.smk_laws_turns.proofs.FolderClosing.{follows_split}
 use Rattle.smk_clean.specs.NothingStarts.{AllAreClean, DrivenStartsNone, IsFirstPlan, StartsNone}
 use Rattle.smk_clean.proofs.UnstartedEvents.{quiet_none}
 use Rattle.smk_clean.proofs.Idle.{IsIdle, answer_idle, steps_quiet}

@@ -39,11 +39,11 @@ use Rattle.smk_laws_protocol.proofs.Basics.{none_by}
 use Rattle.smk_drive.specs.Moments.{Rules, seen}
 use Rattle.smk_laws_edit.proofs.AnyPlan.{of_state, one_maker}
 use Rattle.smk_laws_turns.proofs.Deriving.{derivation_goes_on}
-use Rattle.smk_laws_courses.proofs.Flagged.{temp_output}
-use Rattle.smk_laws_changes.proofs.BegunCalls.{within_free, within_of}
-use Rattle.smk_laws_changes.proofs.JobPaths.{output_spot, owned_path, spots_differ}
-use Rattle.smk_laws_changes.proofs.Ours.{above_at}
-use Rattle.smk_laws_changes.proofs.Settling.{is_removal, removal}
+use Rattle.smk_laws_turns.proofs.Flagged.{temp_output}
+use Rattle.smk_laws_turns.proofs.BegunCalls.{within_free, within_of}
+use Rattle.smk_laws_turns.proofs.JobPaths.{output_spot, owned_path, spots_differ}
+use Rattle.smk_laws_turns.proofs.Ours.{above_at}
+use Rattle.smk_laws_turns.proofs.Settling.{is_removal, removal}
 use Rattle.smk_clean.specs.NothingStarts.{AllAreClean, SpentKeepsPlan}
 use Rattle.smk_clean.proofs.Unwanted.{IsUnwanted, IsWithout, planned_so}
 

@@ -30,7 +30,7 @@ use Rattle.smk_laws_plan.proofs.CurrentProducts.{once_paths}
 use Rattle.smk_laws_plan.proofs.CurrentRecipes.{map_same}
 use Rattle.smk_laws_plan.proofs.PlanStates.{any_same, filter_same}
 use Rattle.smk_cli_target.proofs.PlanStays.{and_never}
-use Rattle.smk_laws_changes.proofs.JobPaths.{output_spot, spots_differ}
+use Rattle.smk_laws_turns.proofs.JobPaths.{output_spot, spots_differ}
 
 -- whole as this output, or as a member of this directory
 abbrev stands_by : Image → Path → Job → Option Path → Bool

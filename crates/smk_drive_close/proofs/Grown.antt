@@ -17,8 +17,8 @@ use Rattle.smk_drive_step.specs.Crews.{halted_by}
 use Rattle.smk_laws_turns.specs.Resting.{refused_command}
 use Rattle.smk_laws_turns.specs.Hubs.{Parts}
 use Rattle.smk_laws_turns.specs.Turning.{faulted}
-use Rattle.smk_laws_growing.specs.Growing.{Grows, HasGrownOn, IsWhole, LacksMemory}
-use Rattle.smk_laws_growing.specs.GrownIn.{HasGrownIn}
+use Rattle.smk_laws_turns.specs.GrowingRounds.{Grows, HasGrownOn, IsWhole, LacksMemory}
+use Rattle.smk_laws_turns.specs.GrownIn.{HasGrownIn}
 use Rattle.smk_drive_close.specs.Rounds.{GoesOnFrom, HasCome, HasMoved, IsRoundOn}
 use Rattle.smk_drive_close.proofs.Faults.{same_device}
 use Rattle.smk_drive_close.proofs.Taken.{moved_not, moved_then}

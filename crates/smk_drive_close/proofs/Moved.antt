@@ -16,8 +16,8 @@ use Rattle.smk_drive.specs.Reports.{named_job}
 use Rattle.smk_drive_step.specs.declared.children.Child.{Child}
 use Rattle.smk_drive_step.specs.Crews.{goings, renumbered}
 use Rattle.smk_laws_turns.specs.Hubs.{asks_in}
-use Rattle.smk_laws_growing.specs.Moving.{is_like, moved, moved_child, new_number, number_like}
-use Rattle.smk_laws_growing.specs.GrownIn.{HaveLines}
+use Rattle.smk_laws_turns.specs.Moving.{is_like, moved, moved_child, new_number, number_like}
+use Rattle.smk_laws_turns.specs.GrownIn.{HaveLines}
 use Rattle.smk_drive_close.specs.Numbers.{place_number}
 
 -- ## Numbers

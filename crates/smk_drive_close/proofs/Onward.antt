@@ -24,8 +24,8 @@ use Rattle.smk_laws_turns.specs.Growing.{IsBeside, IsMoreOf, IsMoreRefusal}
 use Rattle.smk_laws_turns.specs.Resting.{refused_command}
 use Rattle.smk_laws_turns.specs.Hubs.{Parts}
 use Rattle.smk_laws_turns.specs.Turning.{faulted}
-use Rattle.smk_laws_growing.specs.Growing as growing
-use Rattle.smk_laws_growing.specs.Growing.{HasGrownOn, IsGrownBy, IsMoreFor, OfJobs, OfPlan}
+use Rattle.smk_laws_turns.specs.GrowingRounds as growing
+use Rattle.smk_laws_turns.specs.GrowingRounds.{HasGrownOn, IsGrownBy, IsMoreFor, OfJobs, OfPlan}
 use Rattle.smk_drive_close.specs.Rounds.{Grows, IsGrowthRefused, IsRefused, IsRound, IsRoundOn, IsTakenIn, LacksMemory, LookFails}
 use Rattle.smk_drive_close.proofs.Faults.{kinds, quiet_failed, same_device, told_quiet}
 

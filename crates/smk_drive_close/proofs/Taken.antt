@@ -15,8 +15,8 @@ use Rattle.smk_report.specs.declared.fault.Fault.TheVariants as fault
 use Rattle.smk_drive_step.specs.declared.children.Child.{Child}
 use Rattle.smk_drive_step.specs.Crews.{goings, renumbered}
 use Rattle.smk_laws_turns.specs.Hubs.{Parts, asks_in}
-use Rattle.smk_laws_growing.specs.Moving.{moved}
-use Rattle.smk_laws_growing.specs.GrownIn.{HaveLines}
+use Rattle.smk_laws_turns.specs.Moving.{moved}
+use Rattle.smk_laws_turns.specs.GrownIn.{HaveLines}
 use Rattle.smk_drive_close.specs.Numbers.{place_number}
 use Rattle.smk_drive_close.specs.Rounds.{HasMoved, IsGrowthRefused, IsTakenIn}
 use Rattle.smk_drive_close.proofs.Moved.{moved_asks, moved_goings, moved_lines, renumbered_moved}

@@ -3,7 +3,7 @@ use Rattle.std.specs.Prelude.{ℕ, List, Option, Some, None}
 use Rattle.std.specs.List.{slice_get}
 use Rattle.smk_flow.specs.declared.job.Job.{Job}
 use Rattle.smk_drive_step.specs.declared.children.Child.{Child}
-use Rattle.smk_laws_growing.specs.Moving.{new_number}
+use Rattle.smk_laws_turns.specs.Moving.{new_number}
 
 -- the number that the job of the child in the place has among the new jobs
 abbrev pub place_number : List Job → List Job → Option Child → ℕ

@@ -20,9 +20,9 @@ use Rattle.smk_drive_step.specs.Crews.{goings, is_device}
 use Rattle.smk_laws_turns.specs.Resting.{refused_command}
 use Rattle.smk_laws_turns.specs.Hubs.{Parts, asks_in}
 use Rattle.smk_laws_turns.specs.Turning.{faulted}
-use Rattle.smk_laws_growing.specs.Moving.{moved}
-use Rattle.smk_laws_growing.specs.Growing.{HasGrownOn, IsGrownBy, IsRefusedBy}
-use Rattle.smk_laws_growing.specs.GrownIn.{HaveLines}
+use Rattle.smk_laws_turns.specs.Moving.{moved}
+use Rattle.smk_laws_turns.specs.GrowingRounds.{HasGrownOn, IsGrownBy, IsRefusedBy}
+use Rattle.smk_laws_turns.specs.GrownIn.{HaveLines}
 
 -- ## What was found is taken in
 

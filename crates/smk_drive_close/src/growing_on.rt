@@ -3,7 +3,7 @@
 ghost use Rattle.std.specs.Prelude.{◌≡◌, ◌≢◌, [], None, false, true};
 ghost use Rattle.smk_plan_live.specs.Lives.{IsLive};
 ghost use Rattle.smk_laws_turns.specs.Resting.{refused_command};
-ghost use Rattle.smk_laws_growing.specs.GrownIn.{HasGrownIn};
+ghost use Rattle.smk_laws_turns.specs.GrownIn.{HasGrownIn};
 ghost use Rattle.smk_drive_hub.specs.Keeping.{parts_of};
 
 use crate::rounds::round_on;

@@ -1,7 +1,7 @@
 //! The numbers that the jobs of children have among the new jobs.
 
 ghost use Rattle.std.specs.Prelude.{◌≡◌, map, option_map, IfOk};
-ghost use Rattle.smk_laws_growing.specs.Moving as moving;
+ghost use Rattle.smk_laws_turns.specs.Moving as moving;
 ghost use Rattle.smk_drive_close.specs.Numbers.{place_number};
 ghost use Rattle.smk_plan.specs.States.{job_path};
 

@@ -1,5 +1,6 @@
 -- Texts in which no constraint stands have no bad one.
-use Rattle.std.proofs.Common.{◌≡◌, List, [], ◌∷◌, true, Some, None, refl, sym, subst, true≢false}
+use Rattle.std.proofs.Common.{◌≡◌, Bool, List, [], ◌∷◌, true, false, Some, None, refl, sym, subst, true≢false}
+use Rattle.std.specs.Prelude.{◌&&◌}
 use Rattle.std.specs.List.{list_all}
 use Rattle.smk_pattern.specs.Shapes.{Text}
 use Rattle.smk_pattern.specs.Grammar.{Piece, plain, hole, inline_limits, limit_for}
@@ -15,3 +16,12 @@ pub bare_good : (name : Text) (ps : List Piece) (names : List Text) → list_all
 bare_good name ps names e b =
     let h : None ≡ Some b.limit = subst (λ (ls : List Text). limit_for [] name ls ≡ Some b.limit) (bare_lacks name ps e) b.is in
     cc
+
+-- the second fails wherever the first holds, so both never hold
+pub never_all : (a b : Bool) → (a ≡ true → b ≡ false) → (a && b) ≡ false
+never_all true b h = h refl
+never_all false b h = refl
+
+pub hold_all : (a b : Bool) → a ≡ true → b ≡ true → (a && b) ≡ true
+hold_all true b ha hb = hb
+hold_all false b ha hb = ha

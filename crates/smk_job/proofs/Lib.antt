@@ -11,3 +11,4 @@ pub mod Looking
 pub mod Finishing
 pub mod Viewing
 pub mod Viewed
+pub mod Unlisted

@@ -30,7 +30,7 @@ use Rattle.smk_laws_turns.specs.Hubs.{IsAt, Parts}
 use Rattle.smk_laws_turns.specs.Turning.{HasLed, faulted}
 use Rattle.smk_laws_turns.proofs.Going.{goes_on_from}
 use Rattle.smk_laws_turns.proofs.Turning.{halt_leads}
-use Rattle.smk_laws_changes.specs.Begun.{BeginDiffers}
+use Rattle.smk_laws_turns.specs.Begun.{BeginDiffers}
 use Rattle.smk_laws_begins.specs.Fitting.{IsFit}
 use Rattle.smk_laws_begins.specs.Noting.{HasNoted}
 use Rattle.smk_laws_begins.specs.Begins.{MayTake}

@@ -31,8 +31,8 @@ use Rattle.smk_laws_turns.proofs.Agreeing.{begin_agrees}
 use Rattle.smk_laws_turns.proofs.Deriving.{derivation_goes_on}
 use Rattle.smk_laws_turns.proofs.Progressing.{begins_alike}
 use Rattle.smk_laws_turns.specs.Hubs.{IsAt, IsHome, IsKept, Parts, child_of}
-use Rattle.smk_laws_changes.proofs.Homes.{home_stays}
-use Rattle.smk_laws_changes.specs.Begun.{BeginDiffers, IsBegunFor}
+use Rattle.smk_laws_turns.proofs.Homes.{home_stays}
+use Rattle.smk_laws_turns.specs.Begun.{BeginDiffers, IsBegunFor}
 use Rattle.smk_laws_turns.specs.Resting.{IsResting}
 use Rattle.smk_laws_begins.specs.Fitting.{IsFit}
 use Rattle.smk_laws_begins.specs.Begins.{MayTake}

@@ -32,7 +32,7 @@ use Rattle.smk_drive_first.specs.Keeping.{IsFresh}
 use Rattle.smk_drive_first.specs.Opening.{AreRules, IsOpened}
 use Rattle.smk_laws_turns.specs.Hubs.{AreApart, IsAt, IsCrew, IsHome, IsKept, IsOurs, Parts, if_fits, plan_of}
 use Rattle.smk_laws_plan.specs.Signs.{HasOwnSigns}
-use Rattle.smk_laws_changes.proofs.Homes.{home_stays}
+use Rattle.smk_laws_turns.proofs.Homes.{home_stays}
 use Rattle.smk_drive_hub.specs.Keeping.{IsAtStart}
 use Rattle.smk_laws_begins.specs.Opened.{AreSourcesAt, OpenedIsAt}
 use Rattle.smk_laws_begins.proofs.Opened.{fits_same, last_is, no_asks, no_goings, none_in, opened_same}

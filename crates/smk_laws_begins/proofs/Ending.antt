@@ -19,11 +19,11 @@ use Rattle.smk_drive_course.specs.Steps.{Deed}
 use Rattle.smk_drive_course.specs.Breaks.{Spends, SpendsNot, Step}
 use Rattle.smk_laws_moments.proofs.ChildrenOf.{run_more}
 use Rattle.smk_laws_moments.proofs.Fates.{goes_kept}
-use Rattle.smk_laws_changes.proofs.Homes.{home_stays}
+use Rattle.smk_laws_turns.proofs.Homes.{home_stays}
 use Rattle.smk_laws_turns.specs.Hubs.{IsAt, Parts}
 use Rattle.smk_laws_turns.specs.Turning.{HasLed, faulted}
 use Rattle.smk_laws_turns.proofs.Turning.{halt_leads}
-use Rattle.smk_laws_changes.proofs.Settling.{settling_leaves}
+use Rattle.smk_laws_turns.proofs.Settling.{settling_leaves}
 use Rattle.smk_laws_begins.specs.Sweeping.{BrokenSweepLeads, LackingSweepLeads, ShortSweepLeads, SweepLeads, UnsettledLeads, with_live}
 use Rattle.smk_laws_begins.proofs.Firmly.{ReadsAlike, children_kept, gone_settled}
 use Rattle.smk_laws_begins.proofs.Kept.{kept_on, ours_on}

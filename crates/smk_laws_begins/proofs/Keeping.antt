@@ -31,7 +31,7 @@ use Rattle.smk_drive_step.specs.Crews.{IsPutFor}
 use Rattle.smk_drive_course.specs.Stands.{IsClear, Stand, moment_of, with_job}
 use Rattle.smk_drive_course.specs.Steps.{Deed}
 use Rattle.smk_laws_turns.specs.Hubs.{AreOnce, AreOpen, IsAt, IsKept, Parts, asks_in, child_of, if_fits, plan_of}
-use Rattle.smk_laws_changes.specs.Begun.{BeginDiffers}
+use Rattle.smk_laws_turns.specs.Begun.{BeginDiffers}
 use Rattle.smk_laws_begins.specs.Fitting.{IsFit, next_after, serial_of}
 use Rattle.smk_laws_begins.specs.Begins.{MayTake}
 use Rattle.smk_laws_begins.proofs.Began as began

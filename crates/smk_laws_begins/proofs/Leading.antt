@@ -8,7 +8,7 @@ use Rattle.smk_pick.specs.declared.room.Ask.{Ask}
 use Rattle.smk_report.specs.Lines.{Text}
 use Rattle.smk_laws_turns.specs.Hubs.{Parts}
 use Rattle.smk_pick.specs.declared.settings.Settings.{Settings}
-use Rattle.smk_laws_changes.specs.Begun.{BeginDiffers}
+use Rattle.smk_laws_turns.specs.Begun.{BeginDiffers}
 use Rattle.smk_laws_begins.specs.Fitting.{IsFit}
 use Rattle.smk_laws_begins.specs.Begins.{BegunLeads, MayTake, UnbegunLeads, UnfitLeads}
 use Rattle.smk_laws_begins.proofs.Answered.{begun_leads}

@@ -42,8 +42,8 @@ use Rattle.smk_laws_turns.specs.Hubs.{IsAt, IsKept, IsRecordable, Parts, child_o
 use Rattle.smk_laws_turns.specs.Turning.{HasLed}
 use Rattle.smk_laws_turns.proofs.Going.{goes_on_from, rests_there}
 use Rattle.smk_laws_turns.proofs.Turning.{beginning_leads}
-use Rattle.smk_laws_changes.proofs.RoomToBegin.{room_begun}
-use Rattle.smk_laws_changes.specs.Begun.{BeginDiffers}
+use Rattle.smk_laws_turns.proofs.RoomToBegin.{room_begun}
+use Rattle.smk_laws_turns.specs.Begun.{BeginDiffers}
 use Rattle.smk_laws_turns.specs.Resting.{HasGoneBy, IsTold}
 use Rattle.smk_laws_turns.proofs.Answered.{rest_goes_by}
 use Rattle.smk_laws_turns.proofs.Rests.{any_is_replanned}

@@ -26,8 +26,8 @@ use Rattle.smk_drive_first.specs.Opening.{AreRules}
 use Rattle.smk_laws_moments.proofs.ChildrenOf.{run_more}
 use Rattle.smk_laws_turns.specs.Hubs.{IsAt, IsHome, IsKept, IsOurs, Parts}
 use Rattle.smk_laws_turns.specs.Turning.{faulted}
-use Rattle.smk_laws_changes.proofs.Homes.{home_stays}
-use Rattle.smk_laws_changes.proofs.RoomToSpend.{room_to_spend}
+use Rattle.smk_laws_turns.proofs.Homes.{home_stays}
+use Rattle.smk_laws_turns.proofs.RoomToSpend.{room_to_spend}
 use Rattle.smk_laws_turns.specs.Resting.{IsAnswerOf, IsResting, IsSameRun}
 use Rattle.smk_laws_begins.specs.Sweeping.{IsFirstSpent, IsLaterPlan, IsSweptShort, IsSweptTo, SweepBegins, SweepBreaks, SweepGoesOn, SweepLacks, SweepMayGoOn, with_live}
 use Rattle.smk_laws_begins.proofs.Ending.{first_both, has_fault, some_none}

@@ -20,8 +20,8 @@ use Rattle.smk_drive_step.specs.Crews.{goings}
 use Rattle.smk_drive_course.specs.Driven.{IsOpening, Opens}
 use Rattle.smk_laws_moments.proofs.ChildrenOf.{run_more}
 use Rattle.smk_laws_turns.specs.Hubs.{asks_in, if_fits}
-use Rattle.smk_laws_changes.proofs.Settling.{settling_leaves}
-use Rattle.smk_laws_changes.proofs.Homes.{looks_leave_all}
+use Rattle.smk_laws_turns.proofs.Settling.{settling_leaves}
+use Rattle.smk_laws_turns.proofs.Homes.{looks_leave_all}
 use Rattle.smk_safe.proofs.Done.{follows_split}
 
 -- ## Free places

@@ -38,10 +38,10 @@ use Rattle.smk_laws_begins.specs.Picked.{judging_at}
 use Rattle.smk_laws_begins.proofs.Judged.{judged_as_kept}
 use Rattle.smk_laws_begins.proofs.PickedOf.{spent_as_kept}
 use Rattle.smk_laws_protocol.proofs.Basics.{each_in}
-use Rattle.smk_laws_changes.proofs.Homes.{home_stays}
-use Rattle.smk_laws_changes.specs.Begun.{IsSpentFor}
-use Rattle.smk_laws_changes.proofs.Spending.{spend_differs}
-use Rattle.smk_laws_changes.proofs.SpentOutput.{spent_output}
+use Rattle.smk_laws_turns.proofs.Homes.{home_stays}
+use Rattle.smk_laws_turns.specs.Begun.{IsSpentFor}
+use Rattle.smk_laws_turns.proofs.FolderSpending.{spend_differs}
+use Rattle.smk_laws_turns.proofs.SpentOutput.{spent_output}
 use Rattle.smk_laws_turns.specs.Hubs.{IsAt, IsHome, IsKept, Parts, plan_of}
 use Rattle.smk_laws_turns.specs.Resting.{HasGoneBy, IsAnswerOf, IsResting}
 use Rattle.smk_laws_turns.proofs.Answered.{rest_goes_by}

@@ -1,7 +1,7 @@
 -- Running children leave room for the job that is picked.
 use Rattle.std.proofs.Common.{sym, subst}
 use Rattle.smk_pick.specs.declared.settings.Settings.{Settings}
-use Rattle.smk_laws_changes.proofs.RoomToBegin.{room_to_begin}
+use Rattle.smk_laws_turns.proofs.RoomToBegin.{room_to_begin}
 use Rattle.smk_laws_begins.specs.Begins.{MayTake, RoomIsLeft}
 use Rattle.smk_laws_begins.proofs.ToBegin.{taken}
 

@@ -32,7 +32,7 @@ use Rattle.smk_drive_step.specs.Telling.{IsPutIf}
 use Rattle.smk_drive_course.specs.Steps.{Started}
 use Rattle.smk_laws_turns.specs.Hubs.{Parts}
 use Rattle.smk_laws_turns.specs.Turning.{faulted}
-use Rattle.smk_laws_changes.proofs.Begun.{begin_differs}
+use Rattle.smk_laws_turns.proofs.FolderBegun.{begin_differs}
 use Rattle.smk_drive_hub.specs.Turned.{AreSeated, HasFailedWait, IsBarelyMore, LeadOn, TellsOn}
 use Rattle.smk_laws_begins.specs.Fitting.{IsUnfit}
 use Rattle.smk_laws_begins.specs.Noting.{IsBeginFault, child_of}

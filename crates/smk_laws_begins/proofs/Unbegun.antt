@@ -34,7 +34,7 @@ use Rattle.smk_laws_turns.specs.Going.{HasGoneTo}
 use Rattle.smk_laws_turns.specs.Hubs.{IsAt, IsKept, Parts}
 use Rattle.smk_laws_turns.specs.Turning.{faulted}
 use Rattle.smk_laws_turns.proofs.Turning.{beginning_breaks, halt_leads, reading_breaks}
-use Rattle.smk_laws_changes.proofs.Homes.{home_stays, looks_leave_ours}
+use Rattle.smk_laws_turns.proofs.Homes.{home_stays, looks_leave_ours}
 use Rattle.smk_laws_begins.specs.Fitting.{IsFit, IsUnfit, is_restored}
 use Rattle.smk_laws_begins.specs.Noting.{IsBeginFault}
 use Rattle.smk_laws_begins.specs.Begins.{IsNextAs, MayTake}

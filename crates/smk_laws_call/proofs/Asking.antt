@@ -15,8 +15,8 @@ use Rattle.smk_report.specs.declared.fault.Fault.{Fault}
 use Rattle.smk_words_reading.specs.declared.asked.RunWords.{RunWords}
 use Rattle.smk_eval_files.specs.Looks.{at}
 use Rattle.smk_eval_files.specs.Reading.{bytes_at, bytes_in, file_limit}
-use Rattle.smk_laws_reading.specs.Loaded.{files_read}
-use Rattle.smk_laws_reading.proofs.Loaded.{given_again}
+use Rattle.smk_laws_complete.specs.Loaded.{files_read}
+use Rattle.smk_laws_complete.proofs.Loaded.{given_again}
 use Rattle.smk_cli_entry.specs.Names.{file_of, workflow_file}
 use Rattle.smk_laws_keys.specs.Keys.{outside}
 use Rattle.smk_safe.proofs.CleanAtExit.{run_leaves_all_clean}

@@ -37,7 +37,7 @@ use Rattle.smk_cli_calls.specs.Ends.{fault_of}
 use Rattle.smk_cli_calls.specs.Lines.{IsOutcome}
 use Rattle.smk_cli_calls.specs.Locking.{HasHeeded, HasRunLocked, IsClosed, LockGoes, LockStays, Stood, Taken, Unmade, Untaken, with_release}
 use Rattle.smk_cli_calls.specs.Whole.{AsksFor, HasRun, Heeded, IsRefusal, IsToServe, OfPlan, OfWorkflow, Unasked, Unheeded}
-use Rattle.smk_laws_named.specs.Completing.{NoMemory as OfMemory}
+use Rattle.smk_laws_driven.specs.Completing.{NoMemory as OfMemory}
 use Rattle.smk_laws_complete.specs.Derived.{AllHaveValues, GathersAlone}
 use Rattle.smk_laws_refusing.specs.Heeding.{IsSameButLock}
 use Rattle.smk_laws_refusing.proofs.Heeding.{on_both, refusals_heed_no_lock, same_back}
@@ -45,13 +45,13 @@ use Rattle.smk_clean.proofs.Leaving.{faults_later}
 use Rattle.smk_clean.proofs.Locked.{locked_same, refused_before, start_sound}
 use Rattle.smk_laws_call.specs.Complete.{EndsComplete, IsCleanAsked, IsRunAnswer, setting_in}
 use Rattle.smk_laws_call.proofs.Drove.{drove_is_complete}
-use Rattle.smk_laws_named.specs.Grown.{GrowsToClash}
+use Rattle.smk_laws_driven.specs.Grown.{GrowsToClash}
 use Rattle.smk_laws_call.proofs.Grown.{grown_heeds_no_lock}
 use Rattle.smk_laws_call.specs.Calls.{AllIsWell, BrokenOff, CallIsComplete, GrewToClash, IsCleanCall, ListingIsComplete, LockedOut, MayTell, PlanRefused}
 use Rattle.smk_laws_call.proofs.Plain.{plain_flows_plan_plainly}
 use Rattle.smk_cli_calls.proofs.OneByOne.{none_grow}
 use Rattle.smk_eval_files.specs.Looks.{Nodes}
-use Rattle.smk_laws_reading.proofs.Alone.{read_flows_gather_alone}
+use Rattle.smk_laws_complete.proofs.Alone.{read_flows_gather_alone}
 use Rattle.smk_laws_call.proofs.Working.{listed_ends, refused_plans_may_stop, want_stops, work_is_complete}
 
 -- ## What is asked of a run

@@ -27,11 +27,11 @@ use Rattle.smk_cli_entry.specs.declared.asking.Asked.{Asked}
 use Rattle.smk_cli_calls.specs.OneByOne.{grows}
 use Rattle.smk_cli_calls.specs.Serving.{WasDriven, answer_of, settings_of}
 use Rattle.smk_cli_calls.proofs.Driving.{rules_are}
-use Rattle.smk_laws_named.specs.Completing.{NoMemory}
-use Rattle.smk_laws_named.specs.Grown.{EndsGrown, GrowsToClash}
-use Rattle.smk_laws_named.specs.Named.{EndsNamed, IsNamed}
-use Rattle.smk_laws_named.proofs.Complete.{driven_is_complete}
-use Rattle.smk_laws_named.proofs.GrownWhole.{growing_is_complete}
+use Rattle.smk_laws_driven.specs.Completing.{NoMemory}
+use Rattle.smk_laws_driven.specs.Grown.{EndsGrown, GrowsToClash}
+use Rattle.smk_laws_driven.specs.Named.{EndsNamed, IsNamed}
+use Rattle.smk_laws_driven.proofs.Complete.{driven_is_complete}
+use Rattle.smk_laws_driven.proofs.GrownWhole.{growing_is_complete}
 use Rattle.smk_clean.proofs.Plain.{planned_plain}
 use Rattle.smk_clean.proofs.Safe.{looked_safe}
 use Rattle.smk_laws_call.specs.Complete.{DroveIsComplete, IsCleanAsked, IsCompleteAnswer, IsRunAnswer}

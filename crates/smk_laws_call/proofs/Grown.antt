@@ -12,7 +12,7 @@ use Rattle.smk_drive.specs.Moments.{Rules}
 use Rattle.smk_drive.specs.Refusals.{IsFault}
 use Rattle.smk_laws_refusing.specs.Heeding.{IsSameButLock, with_lock}
 use Rattle.smk_laws_refusing.proofs.Heeding.{on_both}
-use Rattle.smk_laws_named.specs.Grown.{GrowsToClash}
+use Rattle.smk_laws_driven.specs.Grown.{GrowsToClash}
 
 module _ (i : Image) (locked : Bool) where
   clashes_same : (earlier : List Path) (ss : List (Path × Bool)) → clashes (with_lock i locked) earlier ss ≡ clashes i earlier ss

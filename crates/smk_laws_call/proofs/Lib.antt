@@ -1,3 +1,9 @@
+pub mod Trees
+pub mod Done
+pub mod Touched
+pub mod SameBytes
+pub mod Edited
+pub mod Turned
 pub mod Grown
 pub mod Temps
 pub mod Drove

@@ -56,9 +56,9 @@ use Rattle.smk_cli_calls.specs.OneByOne.{is_one_by_one}
 use Rattle.smk_cli_calls.specs.Serving.{HasListed, HasWorked, IsPlanFor, IsWant, WasDriven, settings_of}
 use Rattle.smk_cli_calls.specs.Serving.Went.{Drove, Refused, Stopped, Worked}
 use Rattle.smk_cli_calls.specs.Serving.HasListed.{Listed, NotListed}
-use Rattle.smk_laws_named.specs.Completing.{EndsWell, KeepsFiles, MayBreakOff, NoMemory as OfMemory, DeviceFailed, SinkFailed}
-use Rattle.smk_laws_named.specs.Planning.{IsPlainPlan}
-use Rattle.smk_laws_named.proofs.Completing.{runs_are_complete}
+use Rattle.smk_laws_driven.specs.Completing.{EndsWell, KeepsFiles, MayBreakOff, NoMemory as OfMemory, DeviceFailed, SinkFailed}
+use Rattle.smk_laws_driven.specs.Planning.{IsPlainPlan}
+use Rattle.smk_laws_driven.proofs.Completing.{runs_are_complete}
 use Rattle.smk_cli_calls.proofs.OneByOne.{none_grow}
 use Rattle.smk_laws_call.specs.Complete.{EndsComplete, IsCleanAsked, IsCompleteAnswer, IsRunAnswer, RefusedPlansMayStop, ServedListingsAreComplete, ServedRunsAreComplete, WorkIsComplete}
 use Rattle.smk_laws_call.proofs.Drove.{drove_is_complete}

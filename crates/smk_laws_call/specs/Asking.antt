@@ -13,7 +13,7 @@ use Rattle.smk_pick.specs.declared.settings.Force.TheVariants.{No}
 use Rattle.smk_report.specs.declared.fault.Fault.{Fault}
 use Rattle.smk_words_reading.specs.declared.asked.Asked.TheVariants.{Run}
 use Rattle.smk_words_reading.specs.declared.asked.RunWords.{RunWords}
-use Rattle.smk_laws_reading.specs.Loaded.{files_read}
+use Rattle.smk_laws_complete.specs.Loaded.{files_read}
 use Rattle.smk_cli_entry.specs.declared.asking.Asked.{Asked}
 use Rattle.smk_cli_entry.specs.Entry.{IsAskedIn}
 use Rattle.smk_cli_entry.specs.Names.{file_of, workflow_file}

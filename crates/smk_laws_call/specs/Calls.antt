@@ -23,8 +23,8 @@ use Rattle.smk_cli_calls.specs.Serving.{settings_of}
 use Rattle.smk_cli_calls.specs.Whole.{HasServed}
 use Rattle.smk_laws_complete.specs.Derived.{AllHaveValues}
 use Rattle.smk_laws_complete.specs.Planned.{MayStop}
-use Rattle.smk_laws_named.specs.Grown.{GrowsToClash}
-use Rattle.smk_laws_named.specs.Completing.{MayBreakOff}
+use Rattle.smk_laws_driven.specs.Grown.{GrowsToClash}
+use Rattle.smk_laws_driven.specs.Completing.{MayBreakOff}
 use Rattle.smk_laws_call.specs.Complete.{setting_in}
 
 -- The world is sound, no two different contents of its versions have the same SHA-256, the words ask for something, by files that read, and each target that

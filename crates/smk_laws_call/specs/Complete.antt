@@ -21,9 +21,9 @@ use Rattle.smk_cli_calls.specs.OneByOne.{grows}
 use Rattle.smk_cli_calls.specs.Serving.{HasListed, HasWorked, IsPlanFor, IsRefusedPlan, IsServed, IsThat, WasDriven, Went, settings_of}
 use Rattle.smk_laws_complete.specs.Derived.{AllHaveValues, GathersAlone}
 use Rattle.smk_laws_complete.specs.Planned.{MayStop}
-use Rattle.smk_laws_named.specs.Grown.{GrowsToClash}
-use Rattle.smk_laws_named.specs.Completing.{MayBreakOff}
-use Rattle.smk_laws_named.specs.Planning.{IsPlainPlan}
+use Rattle.smk_laws_driven.specs.Grown.{GrowsToClash}
+use Rattle.smk_laws_driven.specs.Completing.{MayBreakOff}
+use Rattle.smk_laws_driven.specs.Planning.{IsPlainPlan}
 
 -- the setting that the sources of a world give to what is asked
 abbrev pub setting_in : Act → (List ℕ → Option Record) → Asked → World → Setting

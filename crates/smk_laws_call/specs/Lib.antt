@@ -1,3 +1,4 @@
+pub mod Thrift
 pub mod Complete
 pub mod Plain
 pub mod Calls

@@ -6,7 +6,7 @@ use Rattle.smk_pick.specs.declared.settings.Settings.{Settings}
 use Rattle.smk_plan.specs.States.{Plan, Progress, LastPlan}
 use Rattle.smk_cli_calls.specs.OneByOne.{IsPlainFlow}
 use Rattle.smk_laws_complete.specs.Derived.{GathersAlone}
-use Rattle.smk_laws_named.specs.Planning.{IsPlainPlan}
+use Rattle.smk_laws_driven.specs.Planning.{IsPlainPlan}
 
 -- The jobs of their plans gather nothing and make plain files.
 abbrev pub PlainFlowsPlanPlainly : Type 0

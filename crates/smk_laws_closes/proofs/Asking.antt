@@ -21,7 +21,7 @@ use Rattle.smk_drive_step.specs.declared.children.Child.{Child}
 use Rattle.smk_drive_step.specs.Crews.{IsPutFor}
 use Rattle.smk_laws_protocol.proofs.Basics.{in_here}
 use Rattle.smk_laws_turns.specs.Hubs.{Parts, asks_in}
-use Rattle.smk_laws_changes.proofs.RoomToClose.{room_to_close}
+use Rattle.smk_laws_turns.proofs.RoomToClose.{room_to_close}
 use Rattle.smk_drive_hub.specs.Turned.{AreSeated, IsSteady, Somewhere, numbers_in}
 use Rattle.smk_laws_closes.proofs.Seats.{none_in}
 use Rattle.smk_laws_closes.proofs.Basis.{in_going}

@@ -28,8 +28,8 @@ use Rattle.smk_laws_protocol.proofs.Basics.{in_here}
 use Rattle.smk_laws_moments.proofs.QuietCalls.{IsQuiet, closing_quiet, quiet_run}
 use Rattle.smk_laws_plan.proofs.CurrentLists.{get_in}
 use Rattle.smk_laws_turns.specs.Hubs.{AreApart, IsAt, IsChildOf, IsHome, Parts, child_of}
-use Rattle.smk_laws_changes.proofs.Apart.{makes_some}
-use Rattle.smk_laws_changes.proofs.Homes.{home_stays}
+use Rattle.smk_laws_turns.proofs.Apart.{makes_some}
+use Rattle.smk_laws_turns.proofs.Homes.{home_stays}
 use Rattle.smk_laws_closes.specs.Endings.{told_end}
 use Rattle.smk_laws_closes.proofs.Around.{AreChildren, IsSplit, is_split, left_of}
 use Rattle.smk_laws_closes.proofs.Endings.{ends_as_closed}

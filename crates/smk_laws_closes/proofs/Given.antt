@@ -2,10 +2,10 @@
 use Rattle.smk_laws_turns.proofs.Turning.{growing_leads}
 use Rattle.smk_laws_turns.proofs.Answered.{rest_goes_by}
 use Rattle.smk_laws_turns.proofs.Rests.{any_is_replanned}
-use Rattle.smk_laws_growing.proofs.Given.{laws as growing_laws}
-use Rattle.smk_laws_growing.proofs.Grows.{growth_goes_on}
-use Rattle.smk_laws_changes.proofs.Before.{plan_before_guarding}
-use Rattle.smk_laws_changes.proofs.Left.{close_differs, left_ours, tend_differs}
+use Rattle.smk_laws_turns.proofs.Given.{laws as growing_laws}
+use Rattle.smk_laws_turns.proofs.Grows.{growth_goes_on}
+use Rattle.smk_laws_turns.proofs.Before.{plan_before_guarding}
+use Rattle.smk_laws_turns.proofs.Left.{close_differs, left_ours, tend_differs}
 use Rattle.smk_laws_closes.proofs.Laws.{Laws}
 
 pub laws : Laws

@@ -26,8 +26,8 @@ use Rattle.smk_laws_moments.specs.Staying.{IsListed}
 use Rattle.smk_laws_turns.specs.Hubs.{AreChildrenOf, IsCountOf, IsKept, Parts, asks_in, plan_of}
 use Rattle.smk_laws_turns.specs.Turning.{HasLed, TellsGrown}
 use Rattle.smk_laws_turns.specs.Resting.{HasReplanned, IsTold}
-use Rattle.smk_laws_growing.specs.Growing.{HasGrownOn}
-use Rattle.smk_laws_growing.specs.Onward.{HasGrownBy, HasGrownTo, IsOnward}
+use Rattle.smk_laws_turns.specs.GrowingRounds.{HasGrownOn}
+use Rattle.smk_laws_turns.specs.Onward.{HasGrownBy, HasGrownTo, IsOnward}
 use Rattle.smk_laws_closes.specs.Learning.{IsOutcomeIn, IsSamePlan, closed_base}
 use Rattle.smk_laws_closes.proofs.Basis.{Closing, closed_home, closed_world, wait, without}
 use Rattle.smk_laws_closes.proofs.Bridged.{bridged}

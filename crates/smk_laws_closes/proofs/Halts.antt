@@ -9,7 +9,7 @@ use Rattle.smk_drive_step.specs.declared.halt.Halt.{Halt}
 use Rattle.smk_drive_step.specs.Crews.{halted_by, is_device, or_later}
 use Rattle.smk_laws_turns.specs.Hubs.{Parts}
 use Rattle.smk_drive_hub.specs.Keeping.{heeded}
-use Rattle.smk_laws_growing.specs.GrownIn.{IsHaltedOnce}
+use Rattle.smk_laws_turns.specs.GrownIn.{IsHaltedOnce}
 use Rattle.smk_laws_closes.specs.Turns.{IsHaltedOn}
 
 pub device_is : (f : Fault) → reports.is_device f ≡ true → f ≡ fault.Device

@@ -1,9 +1,9 @@
 -- Laws of other crates that are taken for granted here.
 use Rattle.smk_laws_turns.specs.Turning.{GrowingLeads, OfParts}
 use Rattle.smk_laws_turns.specs.Resting.{AnyIsReplanned, RestGoesBy}
-use Rattle.smk_laws_changes.specs.Closed.{CloseDiffers, LeftOurs, TendDiffers}
-use Rattle.smk_laws_changes.specs.Guarded.{PlanBeforeGuarding}
-use Rattle.smk_laws_growing.specs.Onward.{GrowthGoesOn}
+use Rattle.smk_laws_turns.specs.Closed.{CloseDiffers, LeftOurs, TendDiffers}
+use Rattle.smk_laws_turns.specs.Guarded.{PlanBeforeGuarding}
+use Rattle.smk_laws_turns.specs.Onward.{GrowthGoesOn}
 
 pub record Laws : Type 0 where
   pub rest_goes_by : RestGoesBy

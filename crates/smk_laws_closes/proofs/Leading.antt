@@ -22,7 +22,7 @@ use Rattle.smk_laws_turns.specs.Hubs.{IsHome, IsOurs, Parts, asks_in}
 use Rattle.smk_laws_turns.specs.Turning.{HasLed, faulted}
 use Rattle.smk_laws_turns.proofs.Turning.{closing_leads}
 use Rattle.smk_laws_turns.specs.Resting.{HasReplanned}
-use Rattle.smk_laws_changes.proofs.Homes.{home_stays}
+use Rattle.smk_laws_turns.proofs.Homes.{home_stays}
 use Rattle.smk_laws_closes.specs.Endings.{told_end}
 use Rattle.smk_laws_closes.specs.Closes.{counted_end}
 use Rattle.smk_laws_closes.specs.Learning.{IsSamePlan}

@@ -15,7 +15,7 @@ use Rattle.smk_drive_pick.specs.Picking.{AreAlike}
 use Rattle.smk_drive_course.specs.Stands.{IsClear, Stand, moment_of}
 use Rattle.smk_drive_course.specs.Steps.{HasGuarded, guards_of}
 use Rattle.smk_laws_turns.specs.Hubs.{AreOnce, AreOpen, IsKept, Parts, asks_in, if_fits, plan_of}
-use Rattle.smk_laws_growing.specs.Onward.{IsOnward}
+use Rattle.smk_laws_turns.specs.Onward.{IsOnward}
 use Rattle.smk_laws_closes.specs.Endings.{told_end}
 use Rattle.smk_laws_closes.specs.Closes.{counted_end}
 use Rattle.smk_laws_closes.proofs.Around.{IsSplit}

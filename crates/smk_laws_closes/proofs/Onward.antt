@@ -35,7 +35,7 @@ use Rattle.smk_laws_moments.specs.Staying.{IsListed}
 use Rattle.smk_laws_turns.specs.Hubs.{AreChildrenOf, AreRunning, IsCrew, IsOurs, Parts}
 use Rattle.smk_laws_turns.proofs.Crew.{crew_shrinks}
 use Rattle.smk_laws_turns.specs.Resting.{IsTold}
-use Rattle.smk_laws_growing.specs.Onward.{IsOnward}
+use Rattle.smk_laws_turns.specs.Onward.{IsOnward}
 use Rattle.smk_laws_closes.specs.Learning.{IsOutcomeIn, IsSamePlan, closed_base}
 use Rattle.smk_laws_closes.proofs.Around.{other_outs, paths_themselves}
 use Rattle.smk_laws_closes.proofs.Basis.{Closing, are_children, ended_world, in_going, left_children, recipe, wait, without}

@@ -23,8 +23,8 @@ use Rattle.smk_drive_course.specs.Steps.{Deed, GuardingFails, HasGuarded, LooksF
 use Rattle.smk_laws_moments.proofs.QuietCalls.{IsQuiet, calls_more, closing_quiet, looks_quiet, tended_quiet}
 use Rattle.smk_laws_turns.specs.Hubs.{Parts}
 use Rattle.smk_laws_closes.specs.Closes.{GuardFails, HasClosedFor, HasTended, IsCut, IsDone, IsLeft, IsNone, IsUnguarded, Learns, WasHalted}
-use Rattle.smk_laws_growing.specs.Growing.{Grows, HasGrownOn, IsBarred, IsRefused, IsWhole, LacksMemory}
-use Rattle.smk_laws_growing.specs.Growing as growing
+use Rattle.smk_laws_turns.specs.GrowingRounds.{Grows, HasGrownOn, IsBarred, IsRefused, IsWhole, LacksMemory}
+use Rattle.smk_laws_turns.specs.GrowingRounds as growing
 use Rattle.smk_laws_closes.specs.Learning.{HasLearnt, IsToldOf, LookFails, LooksShort}
 
 pub quiet_is_given : (act : Act) (A : Type 0) (w : World) (es : List Event) → EachCall IsQuiet es → AreGiven act A w es

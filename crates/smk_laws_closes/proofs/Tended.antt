@@ -23,12 +23,12 @@ use Rattle.smk_laws_moments.proofs.ChildrenOf.{run_more}
 use Rattle.smk_laws_moments.proofs.QuietCalls.{IsQuiet, quiet_run, tended_quiet}
 use Rattle.smk_laws_turns.proofs.Deriving.{derivation_goes_on}
 use Rattle.smk_laws_turns.specs.Hubs.{IsHome}
-use Rattle.smk_laws_changes.specs.Homes.{IsLookedAt}
-use Rattle.smk_laws_changes.proofs.Apart.{one_job}
-use Rattle.smk_laws_changes.proofs.RoomToClose.{unowned_to_look}
-use Rattle.smk_laws_changes.proofs.Homes.{home_stays, looks_leave_all}
-use Rattle.smk_laws_changes.specs.Closed.{IsClosedFor}
-use Rattle.smk_laws_changes.specs.Guarded.{IsGuardedSince}
+use Rattle.smk_laws_turns.specs.Homes.{IsLookedAt}
+use Rattle.smk_laws_turns.proofs.Apart.{one_job}
+use Rattle.smk_laws_turns.proofs.RoomToClose.{unowned_to_look}
+use Rattle.smk_laws_turns.proofs.Homes.{home_stays, looks_leave_all}
+use Rattle.smk_laws_turns.specs.Closed.{IsClosedFor}
+use Rattle.smk_laws_turns.specs.Guarded.{IsGuardedSince}
 use Rattle.smk_laws_closes.specs.Endings.{told_end}
 use Rattle.smk_laws_closes.specs.Learning.{IsOutcomeIn}
 use Rattle.smk_laws_closes.proofs.Around.{IsSplit}

@@ -41,9 +41,9 @@ use Rattle.smk_laws_protocol.proofs.Basics.{in_here, in_rest, in_split}
 use Rattle.smk_laws_turns.specs.Hubs.{Parts, asks_in}
 use Rattle.smk_laws_turns.specs.Turning.{faulted}
 use Rattle.smk_laws_turns.proofs.Turning.{failed_wait_leads}
-use Rattle.smk_laws_changes.proofs.Homes.{home_stays}
-use Rattle.smk_laws_growing.specs.Growing.{HasGrownOn}
-use Rattle.smk_laws_growing.specs.GrownIn.{HasGrownIn, HaveLines, IsHaltedOnce}
+use Rattle.smk_laws_turns.proofs.Homes.{home_stays}
+use Rattle.smk_laws_turns.specs.GrowingRounds.{HasGrownOn}
+use Rattle.smk_laws_turns.specs.GrownIn.{HasGrownIn, HaveLines, IsHaltedOnce}
 use Rattle.smk_drive_hub.specs.Turned.{AreSeated, IsBarelyMore, HasFailedWait, HasTurned, IsSteady, LeadOn, TellsOn, WhereUnhalted}
 use Rattle.smk_laws_closes.specs.Closes.{HasClosedFor, taken}
 use Rattle.smk_laws_closes.specs.Turns.{HasFollowed, IsHaltedOn, TellsEnd}

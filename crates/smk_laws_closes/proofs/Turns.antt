@@ -37,10 +37,10 @@ use Rattle.smk_laws_turns.specs.Hubs.{IsAt, Parts, asks_in}
 use Rattle.smk_laws_turns.specs.Turning.{HasLed, faulted}
 use Rattle.smk_laws_turns.proofs.Going.{goes_on_from}
 use Rattle.smk_laws_turns.proofs.Turning.{closing_breaks, halt_leads, leaving_leads, wait_leads}
-use Rattle.smk_laws_changes.proofs.Homes.{home_stays}
+use Rattle.smk_laws_turns.proofs.Homes.{home_stays}
 use Rattle.smk_laws_moments.proofs.ChildrenOf.{run_more}
 use Rattle.smk_laws_turns.specs.Resting.{IsTold}
-use Rattle.smk_laws_growing.specs.Growing.{HasGrownOn}
+use Rattle.smk_laws_turns.specs.GrowingRounds.{HasGrownOn}
 use Rattle.smk_laws_closes.specs.Learning.{HasLearnt, IsSamePlan, IsToldOf, LookFails, LooksShort, closed_base}
 use Rattle.smk_laws_protocol.proofs.Basics.{in_here}
 use Rattle.smk_laws_closes.specs.Closes.{ClosedLeads, GrownLeads, GuardFails, HasClosedFor, HasDone, HasNotedEnd, HasTended, IsCut, IsDone, IsLeft, IsLineFault, IsNone, IsUnguarded, Learns, WaitedLeads, WasHalted, taken}

@@ -35,7 +35,7 @@ use Rattle.smk_laws_turns.specs.Hubs.{Parts, asks_in}
 use Rattle.smk_laws_turns.specs.Turning.{faulted}
 use Rattle.smk_drive_hub.specs.Keeping.{heeded}
 use Rattle.smk_drive_hub.specs.Turned.{LeadOn, WhereUnhalted}
-use Rattle.smk_laws_growing.specs.Growing.{HasGrownOn}
+use Rattle.smk_laws_turns.specs.GrowingRounds.{HasGrownOn}
 use Rattle.smk_laws_closes.specs.Endings.{told_end}
 use Rattle.smk_laws_closes.specs.Learning.{HasLearnt, IsSamePlan}
 

@@ -1,3 +1,7 @@
+mod Again
+mod Filling
+pub mod Alone
+pub mod Loaded
 pub mod Known
 pub mod Newly
 pub mod Right

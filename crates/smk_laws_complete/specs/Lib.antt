@@ -1,3 +1,6 @@
+pub mod NamedLogs
+pub mod Reading
+pub mod Loaded
 pub mod Valued
 pub mod Listed
 pub mod Derived

@@ -1,6 +1,10 @@
-//! Laws of completeness: what is refused, what fails, and what plans and their listings are, where each target has a clean value.
+//! Laws of completeness: what is refused, what fails, and what plans and their listings are, where each target has a clean value; and what each workflow of files has, as
+//! the laws of plans ask it.
 #![tactic(auto)]
 
+ghost use Rattle.smk_laws_complete.specs.Loaded.{LoadedByFiles};
+ghost use Rattle.smk_laws_complete.specs.NamedLogs.{PlacesAreKnown, PlacesFillByName};
+ghost use Rattle.smk_laws_complete.specs.Reading.{ReadFlowsGatherAlone};
 ghost use Rattle.smk_laws_complete.specs.Valued.{MeantAreRight, MeantJobsAreGood, MoreAreRight, NewAreMeant};
 ghost use Rattle.smk_laws_complete.specs.Listed.{AwaitedAreRecorded, GatheredAreRecorded, ListingsStayMeant};
 ghost use Rattle.smk_laws_complete.specs.Derived.{CleanTargetsAreDerived, DerivedJobsAreGood, GoodJobsEndWell, NoListingIsRight};
@@ -48,4 +52,24 @@ pub fn clean_plan_is_current()
 pub fn clean_targets_are_planned()
     ensures planned { CleanTargetsArePlanned }
     ensures end { ChainsEnd }
+{}
+
+/// In a workflow that was read of files an item of inputs that gathers has no texts written out besides.
+pub fn read_workflows_gather_alone()
+    ensures { ReadFlowsGatherAlone }
+{}
+
+/// In a command the places of logs fill with the texts of the items that stood there by their names.
+pub fn places_fill_by_name()
+    ensures { PlacesFillByName }
+{}
+
+/// And none of these places is missing: only a field that names no item, and has no value without names.
+pub fn places_are_known()
+    ensures { PlacesAreKnown }
+{}
+
+/// What is loaded of a folder is told by the files that are read: the workflow's file and its includes, and the configurations that they name.
+pub fn workflows_are_told_by_their_files()
+    ensures { LoadedByFiles }
 {}

@@ -35,7 +35,7 @@ use Rattle.smk_drive_course.specs.Stands.{moment_of}
 use Rattle.smk_drive_course.specs.Steps.{Deed}
 use Rattle.smk_drive_course.specs.Driven.{HasEndedWell, IsRun}
 use Rattle.smk_drive_course.specs.Reports.{failures}
-use Rattle.smk_laws_courses.proofs.Laws.{run_is_safe}
+use Rattle.smk_laws_turns.proofs.Laws.{run_is_safe}
 use Rattle.smk_laws_driven.specs.Ended.{HasToldWell, setting_in}
 use Rattle.smk_laws_driven.proofs.Fields.{fields_known, unrefused}
 use Rattle.smk_laws_driven.proofs.Lasting.{WasClear, clear_force, run_clear}

@@ -41,7 +41,7 @@ use Rattle.smk_laws_moments.proofs.ChildrenOf.{at_start, run_more}
 use Rattle.smk_laws_moments.proofs.Fates.{begun_stand, ended_stand, replanned_kept}
 use Rattle.smk_laws_moments.proofs.QuietCalls.{IsQuiet, quiet_children}
 use Rattle.smk_laws_moments.proofs.Planned.{derived_are_planned, midway_keeps_sources}
-use Rattle.smk_laws_courses.specs.Following.{IsReached}
+use Rattle.smk_laws_turns.specs.Following.{IsReached}
 use Rattle.smk_laws_driven.proofs.Lasting.{WasClear, answer_broken, clear_force, start_clear, step_broken, step_clear, unhalted_step}
 use Rattle.smk_laws_driven.proofs.Once.{begun_once, ended_once, kept_once, spent_once}
 use Rattle.smk_laws_driven.proofs.Reaching.{is_top, next_children, next_reached, parts, start_kept, start_reached, start_unhalted, top, unhalted_before}

@@ -26,7 +26,7 @@ use Rattle.smk_plan.specs.States.{Plan}
 use Rattle.smk_run.proofs.Calls.{each_append}
 use Rattle.smk_drive.specs.Moments.{Begun, IsInForce, Rules, is_gone, is_rest}
 use Rattle.smk_drive_course.specs.Steps.{HasGuarded}
-use Rattle.smk_laws_courses.proofs.Flags.{IsAsBare, bare, force_there}
+use Rattle.smk_laws_turns.proofs.Flags.{IsAsBare, bare, force_there}
 use Rattle.smk_laws_moments.proofs.Rests.{rest_mono}
 
 -- a look; or a call that made firm or read-only what stands

@@ -28,8 +28,8 @@ use Rattle.smk_laws_turns.specs.Leaving.{AreOwnCalls}
 use Rattle.smk_laws_turns.specs.Places.{IsSameUnder}
 use Rattle.smk_laws_turns.proofs.Leaving.{own_calls_leave}
 use Rattle.smk_laws_turns.proofs.Off.{paths_are_off}
-use Rattle.smk_laws_courses.proofs.Signs.{Spares}
-use Rattle.smk_laws_courses.proofs.Requests.{IsOwn, begins_each, beginning_own, closing_of, own_call, protects_each, done_last}
+use Rattle.smk_laws_turns.proofs.Signs.{Spares}
+use Rattle.smk_laws_turns.proofs.Requests.{IsOwn, begins_each, beginning_own, closing_of, own_call, protects_each, done_last}
 use Rattle.smk_base.specs.Place.{mark_place}
 
 -- ## Which calls are its own

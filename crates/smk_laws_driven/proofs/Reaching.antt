@@ -20,10 +20,10 @@ use Rattle.smk_laws_moments.specs.Courses.{HasChildren}
 use Rattle.smk_laws_moments.proofs.ChildrenOf.{children_are_of_stand}
 use Rattle.smk_laws_moments.proofs.Fates.{IsKept, answer_kept, first_fault_stays}
 use Rattle.smk_laws_moments.proofs.StandsOn.{start_is_derived}
-use Rattle.smk_laws_courses.specs.Following.{GuardsAreOutputs, IsGiven, IsReached}
-use Rattle.smk_laws_courses.proofs.Greatest.{greatest_is_top}
-use Rattle.smk_laws_courses.proofs.Laws.{steps_follow}
-use Rattle.smk_laws_courses.proofs.Opening.{opening_leads}
+use Rattle.smk_laws_turns.specs.Following.{GuardsAreOutputs, IsGiven, IsReached}
+use Rattle.smk_laws_turns.proofs.Greatest.{greatest_is_top}
+use Rattle.smk_laws_turns.proofs.Laws.{steps_follow}
+use Rattle.smk_laws_turns.proofs.Opening.{opening_leads}
 
 none_some : (f : Fault) → ◌≡◌ {A = Option Fault} None (Some f) → ⊥
 none_some f h = cc

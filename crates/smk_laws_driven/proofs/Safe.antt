@@ -16,8 +16,8 @@ use Rattle.smk_drive_course.specs.Steps.{Deed}
 use Rattle.smk_drive_course.specs.Driven.{HasDriven, IsRun}
 use Rattle.smk_laws_moments.specs.Courses.{HasChildren, child_of}
 use Rattle.smk_laws_moments.proofs.ChildrenOf.{at_start, children_are_of_stand, run_more}
-use Rattle.smk_laws_courses.proofs.Greatest.{greatest_is_top}
-use Rattle.smk_laws_courses.proofs.Laws.{run_follows, run_is_safe}
+use Rattle.smk_laws_turns.proofs.Greatest.{greatest_is_top}
+use Rattle.smk_laws_turns.proofs.Laws.{run_follows, run_is_safe}
 use Rattle.smk_laws_driven.specs.Driven.{DrivenIsSafe, IsSafeDrive}
 
 -- the children that are left are those of the last stand

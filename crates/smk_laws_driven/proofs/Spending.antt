@@ -34,11 +34,11 @@ use Rattle.smk_laws_moments.proofs.ChildrenOf.{run_more}
 use Rattle.smk_laws_turns.specs.Places.{IsSameUnder}
 use Rattle.smk_laws_moments.proofs.Planned.{derived_are_planned, midway_keeps_sources}
 use Rattle.smk_laws_moments.proofs.StandsOn.{replanning_stays_derived}
-use Rattle.smk_laws_courses.specs.Following.{IsReached}
-use Rattle.smk_laws_courses.proofs.Begun.{unbroken}
-use Rattle.smk_laws_courses.proofs.Coming.{come_on, one_step}
-use Rattle.smk_laws_courses.proofs.Spent.{spent_is_free}
-use Rattle.smk_laws_courses.proofs.StandStates.{IsLater, goes_later, later_then, replanned_later, state_later}
+use Rattle.smk_laws_turns.specs.Following.{IsReached}
+use Rattle.smk_laws_turns.proofs.Begun.{unbroken}
+use Rattle.smk_laws_turns.proofs.Coming.{come_on, one_step}
+use Rattle.smk_laws_turns.proofs.Spent.{spent_is_free}
+use Rattle.smk_laws_turns.proofs.StandStates.{IsLater, goes_later, later_then, replanned_later, state_later}
 
 -- ## What calls leave
 

@@ -57,9 +57,9 @@ use Rattle.smk_laws_moments.specs.Staying.{IsDerivedStill}
 use Rattle.smk_laws_moments.proofs.Planned.{derived_are_planned, midway_keeps_sources}
 use Rattle.smk_laws_moments.proofs.Next.{IsStarting, starting}
 use Rattle.smk_laws_moments.proofs.Starting.{startable_may_begin}
-use Rattle.smk_laws_courses.specs.Following.{IsReached}
-use Rattle.smk_laws_courses.proofs.Pairs.{aside, parted}
-use Rattle.smk_laws_courses.proofs.StandStates.{IsLater}
+use Rattle.smk_laws_turns.specs.Following.{IsReached}
+use Rattle.smk_laws_turns.proofs.Pairs.{aside, parted}
+use Rattle.smk_laws_turns.proofs.StandStates.{IsLater}
 use Rattle.smk_laws_driven.proofs.Fed.{next_fed}
 use Rattle.smk_laws_driven.proofs.Good as good
 use Rattle.smk_laws_driven.proofs.Good.{stand_right}

@@ -28,7 +28,7 @@ use Rattle.smk_drive_course.specs.Driven.{HasEndedWell, IsRun}
 use Rattle.smk_laws_moments.specs.Courses.{IsHaltedIfBroken}
 use Rattle.smk_laws_moments.proofs.ChildrenOf.{run_more}
 use Rattle.smk_laws_moments.proofs.Fates.{IsKept}
-use Rattle.smk_laws_courses.specs.Following.{IsReached}
+use Rattle.smk_laws_turns.specs.Following.{IsReached}
 use Rattle.smk_laws_driven.specs.Succeeding.{DrivenSucceeds}
 use Rattle.smk_laws_driven.proofs.Lasting.{WasClear, answer_broken, start_clear, step_broken, step_clear, unhalted_step}
 use Rattle.smk_laws_driven.proofs.Listed.{IsListedWell, next_well, start_well}

@@ -36,7 +36,7 @@ use Rattle.smk_laws_protocol.proofs.SoundWorlds.{now_is}
 use Rattle.smk_laws_protocol.proofs.Unowned.{input_unowned}
 use Rattle.smk_laws_protocol.proofs.View.{View}
 use Rattle.smk_drive.specs.Moments.{ending}
-use Rattle.smk_laws_courses.proofs.Pairs.{aside, parted}
+use Rattle.smk_laws_turns.proofs.Pairs.{aside, parted}
 
 -- ## Lists
 

@@ -1,3 +1,9 @@
+pub mod TurnsSucceeding
+pub mod Feeding
+pub mod Planning
+pub mod Completing
+pub mod Named
+pub mod Grown
 pub mod Driven
 pub mod Ended
 pub mod Succeeding

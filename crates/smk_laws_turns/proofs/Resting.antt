@@ -16,7 +16,7 @@ use Rattle.smk_laws_history.proofs.CurrentComplete.{seen_is_complete}
 use Rattle.smk_laws_plan.proofs.CurrentPaths.{in_among}
 use Rattle.smk_laws_plan.proofs.PlanOne.{derived}
 use Rattle.smk_laws_plan.specs.Current.{IsComplete}
-use Rattle.smk_laws_courses.proofs.DerivedJobs.{is_named_so}
+use Rattle.smk_laws_turns.proofs.DerivedJobs.{is_named_so}
 use Rattle.smk_laws_plan.proofs.CurrentLists.{get_in}
 use Rattle.smk_plan_states.specs.Judged.{with_states}
 use Rattle.smk_plan_table.specs.Plans.{HasMadeAt, fault_in}

@@ -1,6 +1,6 @@
 //! Inputs, each path with its stamp.
 
-ghost use Rattle.std.specs.Prelude.{◌≡◌, ◌++◌, length, OnOk, string_bytes};
+ghost use Rattle.std.specs.Prelude.{◌≡◌, ◌++◌, drop, length, OnOk, string_bytes};
 ghost use Rattle.smk_record.specs.Spelling.{num, stamped_paths, items};
 ghost use Rattle.smk_record.specs.Reading.{Gives, each_in, stamped_in, item_in, inputs_in, alone, all};
 
@@ -95,6 +95,16 @@ pub(crate) fn inputs(
     items_of(alloc, count, rest)
 }
 
+// The stamps behind as many of them; none where there are no more.
+fn beyond(stamps: &[Stamp], count: usize) -> &[Stamp]
+    ensures { result.now ≡ drop count stamps.now }
+{
+    if count < stamps.len() {
+        return &stamps[count..];
+    }
+    &[]
+}
+
 // Adds each path with its stamp, as far as there are stamps.
 fn push_stamped(text: &mut String, paths: &[PathText], stamps: &[Stamp]) -> Result<(), AllocError>
     ensures { OnOk result (string_bytes text.new ≡ string_bytes text.old ++ stamped_paths paths.now stamps.now) }
@@ -121,7 +131,7 @@ pub(crate) fn push_inputs(
         let paths = item.paths.as_slice();
         push_number(text, paths.len() as u64)?;
         push_stamped(text, paths, rest)?;
-        rest = &rest[paths.len().min(rest.len())..];
+        rest = beyond(rest, paths.len());
     }
     Ok(())
 }

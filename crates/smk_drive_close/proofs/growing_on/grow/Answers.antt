@@ -1,5 +1,5 @@
 use Rattle.std.proofs.Common.{sym, subst}
-use Rattle.smk_laws_growing.specs.GrownIn.{HasGrownIn}
+use Rattle.smk_laws_turns.specs.GrownIn.{HasGrownIn}
 use Rattle.smk_laws_turns.specs.Hubs.{Parts}
 use Rattle.smk_drive_hub.specs.Keeping.{parts_of}
 use Rattle.smk_drive_close.proofs.Grown.{come_further, come_nowhere, ends_faulted, ends_short, ends_whole}

@@ -1,5 +1,5 @@
 use Rattle.std.proofs.Common.{sym, ◌∙◌}
-use Rattle.smk_laws_growing.specs.Moving.{number_like}
+use Rattle.smk_laws_turns.specs.Moving.{number_like}
 use Rattle.smk_drive_close.proofs.Moved.{like_here, like_later}
 use Rattle.smk_drive_close.proofs.numbering.number_like.Goals as goal
 

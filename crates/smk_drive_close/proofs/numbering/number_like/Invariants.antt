@@ -1,5 +1,5 @@
 use Rattle.std.proofs.Common.{◌≡◌, ◌+◌, drop}
-use Rattle.smk_laws_growing.specs.Moving.{number_like}
+use Rattle.smk_laws_turns.specs.Moving.{number_like}
 use Rattle.smk_drive_close.proofs.numbering.number_like.Given as goal
 
 abbrev pub invariant-loop-number : goal.invariant-loop-number

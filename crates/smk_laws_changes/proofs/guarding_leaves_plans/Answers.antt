@@ -1,5 +1,0 @@
-use Rattle.smk_laws_changes.proofs.Before.{plan_before_guarding}
-use Rattle.smk_laws_changes.proofs.guarding_leaves_plans.Goals as goal
-
-pub returns : goal.returns
-returns c = plan_before_guarding

@@ -1,5 +1,0 @@
-use Rattle.smk_laws_courses.proofs.Laws.{run_follows, steps_follow}
-use Rattle.smk_laws_courses.proofs.runs_follow.Goals as goal
-
-pub returns : goal.returns
-returns c = record { steps = steps_follow; whole = run_follows }

@@ -1,7 +1,0 @@
-use Rattle.smk_laws_courses.proofs.AllStands.{step_is_moment}
-use Rattle.smk_laws_courses.proofs.BeginningOf.{beginning_is_moment}
-use Rattle.smk_laws_courses.proofs.ClosingOf.{closing_is_moment, leaving_is_moment}
-use Rattle.smk_laws_courses.proofs.steps_are_moments.Goals as goal
-
-pub returns : goal.returns
-returns c = record { begin = beginning_is_moment; close = closing_is_moment; leave = leaving_is_moment; step = step_is_moment }

@@ -1,3 +1,0 @@
-pub mod Reporting
-pub mod Following
-pub mod Standing

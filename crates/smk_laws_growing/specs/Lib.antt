@@ -1,5 +1,0 @@
-pub mod Grown
-pub mod Moving
-pub mod Growing
-pub mod Onward
-pub mod GrownIn

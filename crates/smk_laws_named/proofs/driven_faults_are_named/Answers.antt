@@ -1,5 +1,0 @@
-use Rattle.smk_laws_named.proofs.Whole.{driven_faults_are_named}
-use Rattle.smk_laws_named.proofs.driven_faults_are_named.Goals as goal
-
-pub returns : goal.returns
-returns c = driven_faults_are_named

@@ -1,5 +1,0 @@
-use Rattle.smk_laws_named.proofs.GrownWhole.{growing_faults_are_named}
-use Rattle.smk_laws_named.proofs.growing_faults_are_named.Goals as goal
-
-pub returns : goal.returns
-returns c = growing_faults_are_named

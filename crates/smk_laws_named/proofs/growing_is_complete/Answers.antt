@@ -1,5 +1,0 @@
-use Rattle.smk_laws_named.proofs.GrownWhole.{growing_is_complete}
-use Rattle.smk_laws_named.proofs.growing_is_complete.Goals as goal
-
-pub returns : goal.returns
-returns c = growing_is_complete

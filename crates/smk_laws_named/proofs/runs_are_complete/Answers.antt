@@ -1,5 +1,0 @@
-use Rattle.smk_laws_named.proofs.Completing.{runs_are_complete}
-use Rattle.smk_laws_named.proofs.runs_are_complete.Goals as goal
-
-pub returns : goal.returns
-returns c = runs_are_complete

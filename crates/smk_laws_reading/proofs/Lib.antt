@@ -1,4 +1,0 @@
-mod Again
-mod Filling
-pub mod Alone
-pub mod Loaded

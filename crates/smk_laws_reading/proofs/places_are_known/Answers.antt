@@ -1,5 +1,0 @@
-use Rattle.smk_laws_reading.proofs.Filling.{places_are_known as all_known}
-use Rattle.smk_laws_reading.proofs.places_are_known.Goals as goal
-
-pub returns : goal.returns
-returns c = all_known

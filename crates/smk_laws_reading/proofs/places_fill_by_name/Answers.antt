@@ -1,5 +1,0 @@
-use Rattle.smk_laws_reading.proofs.Filling.{places_fill_by_name as all_fill}
-use Rattle.smk_laws_reading.proofs.places_fill_by_name.Goals as goal
-
-pub returns : goal.returns
-returns c = all_fill

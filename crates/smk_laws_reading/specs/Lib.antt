@@ -1,3 +1,0 @@
-pub mod NamedLogs
-pub mod Reading
-pub mod Loaded
