@@ -21,7 +21,3 @@ bare_good name ps names e b =
 pub never_all : (a b : Bool) → (a ≡ true → b ≡ false) → (a && b) ≡ false
 never_all true b h = h refl
 never_all false b h = refl
-
-pub hold_all : (a b : Bool) → a ≡ true → b ≡ true → (a && b) ≡ true
-hold_all true b ha hb = hb
-hold_all false b ha hb = ha

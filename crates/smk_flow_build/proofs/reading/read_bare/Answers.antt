@@ -1,10 +1,10 @@
 use Rattle.std.proofs.Common.{rules, ◌≡◌, List, [], true, false, ◌∙◌, sym, subst}
 use Rattle.std.specs.List.{list_all}
-use Rattle.std.proofs.lemmas.Bool.{and_parts}
+use Rattle.std.proofs.lemmas.Bool.{and_from, and_parts}
 use Rattle.smk_base.specs.declared.tree.Pair.{Pair}
 use Rattle.smk_pattern.specs.Reading.{pieces, names_in}
 use Rattle.smk_pattern.specs.Written.{is_bare, is_written, IsBadLimit}
-use Rattle.smk_flow_build.proofs.Bare.{bare_good, hold_all, never_all}
+use Rattle.smk_flow_build.proofs.Bare.{bare_good, never_all}
 use Rattle.smk_flow_build.proofs.reading.read_bare.Goals as goal
 
 pub returns-in-Err-BadConstraint-clause-unread : goal.returns-in-Err-BadConstraint-clause-unread
@@ -31,4 +31,4 @@ returns-in-Ok-clause-read c =
     let t = c.args.text.now in
     let written : is_written t ≡ true = c.in-Ok.ensures.written in
     let has : c.in_ok-has_no_constraint.field-0 ≡ true = search rules in
-    hold_all (is_written t) (list_all is_bare (pieces t)) written (sym (c.in_ok-has_no_constraint.ensures (and_parts _ _ written).0) ∙ has)
+    and_from (is_written t) (list_all is_bare (pieces t)) written (sym (c.in_ok-has_no_constraint.ensures (and_parts _ _ written).0) ∙ has)
