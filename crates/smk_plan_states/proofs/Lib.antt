@@ -16,5 +16,6 @@ mod ByRank
 mod Needing
 mod Building
 mod HeldByLinks
+mod Lacking
 mod LookUps
 pub mod Linked

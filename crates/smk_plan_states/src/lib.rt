@@ -23,6 +23,6 @@ mod ways;
 pub use judged::Judged;
 pub use laws::linked_jobs_serve;
 pub use lines::{Awaited, Gathered, Input, Line, Origin, Output, Target, Temp};
-pub use reasons::{reasons_again, state_again};
+pub use reasons::state_again;
 pub use rows::Rows;
 pub use table::Table;
