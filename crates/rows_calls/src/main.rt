@@ -1,11 +1,15 @@
 //! Runs the whole call over workspaces in memory, and prints how each ends: its status, what is left of the job, its report, and the line of its fault. Then it stops
-//! runs after each of their calls, lets a crash follow and goes on, and lets each call fail, and prints how many of these ended wrong.
+//! runs after each of their calls, lets a crash follow and goes on, and lets each call fail, and prints how many of these ended wrong. At the end come trials of
+//! generated workflows, and what takes away the lock and what is known of paths.
 #![tactic(auto)]
 
 mod again;
 mod commands;
 mod failing;
 mod failures;
+mod generating;
+mod keyed;
+mod keys;
 mod later;
 mod left;
 mod row;
@@ -27,6 +31,8 @@ fn rows<Rt: Threads + Sync>(rt: &Rt, alloc: Global) -> Result<String, AllocError
     later::push_rows(rt, alloc, &mut text)?;
     commands::push_rows(rt, alloc, &mut text)?;
     stopping::push_rows(rt, alloc, &mut text)?;
+    generating::push_rows(rt, alloc, &mut text)?;
+    keys::push_rows(alloc, &mut text)?;
     Ok(text)
 }
 

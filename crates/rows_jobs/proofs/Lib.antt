@@ -1,2 +1,3 @@
+mod Unused
 pub mod Bare
 pub mod Idle

@@ -12,3 +12,4 @@ mod Spent
 mod Listed
 mod Zips
 mod Better
+mod Full

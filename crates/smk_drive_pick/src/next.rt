@@ -1,12 +1,15 @@
 //! The job that begins next.
 
-ghost use Rattle.std.specs.Prelude.{◌≡◌, ℕ, Bool, true, None, zip, option_map, IfOk};
+ghost use Rattle.std.specs.Prelude.{◌≡◌, ℕ, Bool, true, false, None, zip, option_map, IfOk};
+ghost use Rattle.smk_pick.specs.Shares.{fits_in};
+ghost use Rattle.smk_drive.specs.Lawful.{ask_of};
 ghost use Rattle.std.specs.List.{slice_get};
 ghost use Rattle.smk_flow.specs.declared.job.Job.{Job as JobValue};
 ghost use Rattle.smk_trigger.specs.declared.reason.State.{State as StateValue};
 ghost use Rattle.smk_plan.specs.States.{test_some};
 ghost use Rattle.smk_plan_live.specs.Lives.{IsLive};
 ghost use Rattle.smk_plan_live.specs.Phases.{has_begun};
+ghost use Rattle.smk_drive_pick.specs.declared.next.Ground.{Ground as GroundValue};
 ghost use Rattle.smk_drive_pick.specs.Picking.{IsNextNow};
 ghost use Rattle.smk_drive_pick.specs.Told.{best_from, better, if_passes};
 ghost use Rattle.smk_drive_pick.specs.Grounds.{IsGroundOf, is_free_by, lacks_by, may_begin_by};
@@ -14,9 +17,9 @@ ghost use Rattle.smk_drive_pick.specs.Grounds.{IsGroundOf, is_free_by, lacks_by,
 use crate::asking::ask_of;
 use crate::hands::{Hands, is_to_run};
 use crate::numbers::flag_at;
-use smk_base::OutOfMemory;
+use smk_base::{List, OutOfMemory};
 use smk_flow::Job;
-use smk_pick::Room;
+use smk_pick::{Ask, Room};
 use smk_plan_live::{LivePlan, Phase};
 use smk_plan_states::Line;
 use smk_trigger::State;
@@ -127,7 +130,7 @@ impl Ground<'_> {
         }))
     }
 
-    // The best so far, or the job of the number in its place: what it asks for is gathered only where its priority is greater.
+    // The best so far, or the job of the number in its place: what it needs and asks for is looked at only where its priority is greater, and some room is left for it.
     fn or_better(
         &self,
         alloc: Global,
@@ -139,7 +142,7 @@ impl Ground<'_> {
     ) -> Result<Option<Best>, OutOfMemory>
         ensures { IfOk result (λ found. found ≡ better best (if_passes (may_begin_by self.now room.now number) number (job.now, state.now))) }
     {
-        if is_no_better(job, best) {
+        if is_passed_over(alloc, room, job, best) {
             return Ok(best);
         }
         let later = self.if_free(alloc, room, number, job, state)?;
@@ -173,6 +176,29 @@ fn is_no_better(job: &Job, best: Option<Best>) -> bool
         None => false,
         Some(best) => !(job.priority > best.priority),
     }
+}
+
+// Whether the room has too few threads or amounts left for the job, whatever amounts it asks for.
+fn is_full(alloc: Global, room: &Room, job: &Job) -> bool
+    ensures { result ≡ true → fits_in room.now (ask_of job.now) ≡ false }
+{
+    let bare = Ask {
+        threads: job.threads,
+        amounts: List::new(alloc),
+        priority: job.priority,
+    };
+    !room.fits(&bare)
+}
+
+// Whether the best so far stays, be the job free or not.
+fn is_passed_over(alloc: Global, room: &Room, job: &Job, best: Option<Best>) -> bool
+    ensures { result ≡ true → (told : GroundValue) (number : ℕ) (state : StateValue)
+        → better best (if_passes (may_begin_by told room.now number) number (job.now, state)) ≡ best }
+{
+    if is_no_better(job, best) {
+        return true;
+    }
+    is_full(alloc, room, job)
 }
 
 // The number of the job.

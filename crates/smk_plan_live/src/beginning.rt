@@ -8,7 +8,6 @@ ghost use Rattle.smk_plan_live.specs.Changes.{HasBegun, IsRefusedBegun};
 ghost use Rattle.smk_plan_live.specs.Steps.{IsStart};
 
 use crate::base::Base;
-use crate::children::state_again;
 use crate::now::entry_now;
 use crate::outs::out_paths_in;
 use crate::rows::Rows;
@@ -19,6 +18,7 @@ use smk_chain::first_output;
 use smk_flow::Job;
 use smk_plan::{PlanFault, Sight};
 use smk_plan_facts::kept_again;
+use smk_plan_states::state_again;
 use smk_store::{Entry, Kept};
 use smk_trigger::{Plain, State};
 use smk_world::Stat;
@@ -134,7 +134,7 @@ fn start_of(
     if !has_name(job) {
         return Err(OutOfMemory);
     }
-    let state = state_again(alloc, element(states, number))?;
+    let state = state_again(element(states, number))?;
     let rows = begun_rows(alloc, base, job)?;
     Ok(Start { state, rows })
 }

@@ -126,26 +126,22 @@ fn phase_from(base: &Base, job: &Job) -> Phase
 }
 
 // The state of the number.
-fn began_at(
-    alloc: Global,
-    began: &[Option<State>],
-    number: usize,
-) -> Result<Option<State>, OutOfMemory>
+fn began_at(began: &[Option<State>], number: usize) -> Result<Option<State>, OutOfMemory>
     ensures { IfOk result (λ state. state ≡ joined (slice_get began.now number)) }
 {
     match began.get(number) {
         None => Ok(None),
-        Some(state) => state_if_any(alloc, state),
+        Some(state) => state_if_any(state),
     }
 }
 
 // The state that the job had when it began, if its child runs.
-fn began_from(alloc: Global, base: &Base, job: &Job) -> Result<Option<State>, OutOfMemory>
+fn began_from(base: &Base, job: &Job) -> Result<Option<State>, OutOfMemory>
     ensures { IfOk result (λ state. state ≡ began_from base.now job.now) }
 {
     match origin(base, job) {
         None => Ok(None),
-        Some(number) => began_at(alloc, base.began.as_slice(), number),
+        Some(number) => began_at(base.began.as_slice(), number),
     }
 }
 
@@ -202,7 +198,7 @@ fn all_began(alloc: Global, base: &Base, jobs: &[Job]) -> Result<Vec<Option<Stat
 {
     let mut found = Vec::new(alloc);
     for job in jobs {
-        let state = began_from(alloc, base, job)?;
+        let state = began_from(base, job)?;
         found.push(state)?;
     }
     Ok(found)

@@ -23,7 +23,7 @@ pub(crate) struct Lent<'l> {
 fn each<'l, T>(alloc: Global, elements: &'l [T]) -> Result<Vec<&'l T>, OutOfMemory>
     ensures { IfOk result (λ found. lent found.items ≡ elements.now) }
 {
-    let mut found = Vec::new(alloc);
+    let mut found = Vec::with_capacity(alloc, elements.len())?;
     for element in elements {
         found.push(element)?;
     }
@@ -34,7 +34,7 @@ fn each<'l, T>(alloc: Global, elements: &'l [T]) -> Result<Vec<&'l T>, OutOfMemo
 fn forced_flags(alloc: Global, facts: &[JobFacts]) -> Result<Vec<bool>, OutOfMemory>
     ensures { IfOk result (λ found. found.items ≡ map (λ f. f.forced) facts.now) }
 {
-    let mut found = Vec::new(alloc);
+    let mut found = Vec::with_capacity(alloc, facts.len())?;
     for one in facts {
         found.push(one.forced)?;
     }

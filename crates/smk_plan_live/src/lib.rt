@@ -14,7 +14,6 @@ mod commands;
 mod copies;
 mod flags;
 mod growing;
-mod judged;
 mod later;
 mod lending;
 mod live;

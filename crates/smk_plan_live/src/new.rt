@@ -148,7 +148,16 @@ fn tell_kept(
     let suspects = kept.flags.suspects.as_slice();
     match lend(alloc, outputs, reasons, facts) {
         Err(_) => Err(PlanFault::OutOfMemory),
-        Ok(rows) => tell(alloc, base, settings, &kept.table, &rows, makers, suspects),
+        Ok(rows) => tell(
+            alloc,
+            base,
+            settings,
+            &kept.table,
+            &rows,
+            makers,
+            suspects,
+            &[],
+        ),
     }
 }
 

@@ -167,6 +167,7 @@ impl LivePlan {
                 &rows,
                 makers,
                 suspects,
+                self.plan.states.as_slice(),
             ),
         }
     }

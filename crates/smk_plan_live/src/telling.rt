@@ -18,6 +18,7 @@ use smk_plan::{Plan, PlanFault};
 use smk_plan_facts::told_is_so;
 use smk_plan_states::{Rows, Table};
 use smk_plan_table::{Suspect, plan_now};
+use smk_trigger::State;
 use std::alloc::Global;
 
 /// A plan, and whether some job is to be restored but counts as Clean.
@@ -87,7 +88,7 @@ pub(crate) fn begun_of(
 fn begun_flags(alloc: Global, phases: &[Phase]) -> Result<Vec<bool>, OutOfMemory>
     ensures { IfOk result (λ found. found.items ≡ map has_begun phases.now) }
 {
-    let mut found = Vec::new(alloc);
+    let mut found = Vec::with_capacity(alloc, phases.len())?;
     for phase in phases {
         found.push(has_begun(*phase))?;
     }
@@ -104,6 +105,7 @@ fn tell_by(
     makers: &[bool],
     begun: &[bool],
     suspects: &[Suspect],
+    before: &[State],
 ) -> Result<Made, PlanFault>
     requires table { IsTableOf base.now.jobs settings.now.targets table.now }
     requires begun { begun.now ≡ map has_begun base.now.phases }
@@ -124,7 +126,7 @@ fn tell_by(
         running: base.began.as_slice(),
     };
     match plan_now(
-        alloc, &base.jobs, table, base, settings, &rows, begun, suspects,
+        alloc, &base.jobs, table, base, settings, &rows, begun, suspects, before,
     ) {
         Err(fault) => Err(fault),
         Ok(plan) => match table.holds_back(alloc, &rows, plan.states.as_slice()) {
@@ -135,7 +137,7 @@ fn tell_by(
 }
 
 /// The plan of the jobs by what is lent: the rows of this moment, which of the makers' paths are whole, and what may be refused of each job; and whether a job is
-/// held back.
+/// held back. `before` are states that the jobs had, or none: a job whose reasons are the same as there shares them.
 ///
 /// The faults are those of a plan.
 pub(crate) fn tell(
@@ -146,6 +148,7 @@ pub(crate) fn tell(
     lent: &Lent<'_>,
     makers: &[bool],
     suspects: &[Suspect],
+    before: &[State],
 ) -> Result<Made, PlanFault>
     requires { IsTableOf base.now.jobs settings.now.targets table.now }
     ensures each { IfOk result (λ made. length made.plan.states ≡ length base.now.jobs.jobs) }
@@ -167,6 +170,7 @@ pub(crate) fn tell(
             makers,
             begun.as_slice(),
             suspects,
+            before,
         ),
     }
 }

@@ -16,5 +16,7 @@ mod ByRank
 mod Needing
 mod Building
 mod HeldByLinks
+mod Lacking
+mod Steps
 mod LookUps
 pub mod Linked

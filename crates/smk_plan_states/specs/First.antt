@@ -1,5 +1,5 @@
 -- The first pass over a plan: states but for what only jobs that are to run want back.
-use Rattle.std.specs.Prelude.{◌≡◌, Bool, true, ◌&&◌, ◌||◌, not, List, [], ◌++◌, map, filter, bytes_eq, if◌then◌else◌, Option}
+use Rattle.std.specs.Prelude.{◌≡◌, Bool, true, ◌&&◌, ◌||◌, not, List, ◌++◌, map, filter, bytes_eq, if◌then◌else◌, Option}
 use Rattle.std.specs.List.{list_any}
 use Rattle.smk_world.specs.World.{out_paths}
 use Rattle.smk_world.specs.Trees.{Path, among, kind_in}

@@ -15,6 +15,7 @@ pub mod Rows
 pub mod Ranks
 pub mod Spots
 pub mod Ranking
+pub mod Stays
 pub mod Moment
 pub mod Ways
 pub mod Waits

@@ -95,6 +95,14 @@ is_link n link = test_some (λ m. m == n) link
 abbrev pub has_link : ℕ → Input → Bool
 has_link n i = is_link n i.link
 
+-- an output isn't whole
+abbrev pub lacks : List Bool → Bool
+lacks flags = list_any not flags
+
+-- the job is Clean, and an output of it isn't whole
+abbrev pub is_lacking : Rank × List Bool → Bool
+is_lacking e = is_clean_rank e.0 && lacks e.1
+
 -- ## The passes
 
 -- the rank by the table, where what only jobs that are to run want back doesn't count
@@ -140,6 +148,10 @@ is_needed_in lines states n = list_any (is_run_reader n) (zip lines states)
 abbrev pub is_held_by : List Bool → Line × (State × (Option State × (Bool × List Bool))) → Bool
 is_held_by needed e =
     (is_none e.1.1.0 && is_clean e.1.0) && (e.1.1.1.0 && (is_needed_by_flags needed e.0.outputs e.1.1.1.1 || is_kept_by e.0.outputs e.1.1.1.1))
+
+-- the job counts as Clean, a child reads what it made, and an output of it isn't whole
+abbrev pub is_lent_lacking : State × (Bool × List Bool) → Bool
+is_lent_lacking e = is_clean e.0 && (e.1.0 && lacks e.1.1)
 
 -- ## What is ready
 

@@ -1,20 +1,21 @@
 //! The last pass, from the last job to the first: what jobs that are to run want back.
 
 ghost use Rattle.std.specs.Prelude.{◌≡◌, ◌<◌, ◌||◌, ◌&&◌, ◌==◌, ℕ, List as Items, length, map, slice_index_or, false, [], IfOk};
-ghost use Rattle.std.specs.List.{list_any};
+ghost use Rattle.std.specs.List.{list_any, zip};
 ghost use Rattle.smk_chain.specs.declared.jobs.Jobs.{Jobs as JobsValue};
 ghost use Rattle.smk_trigger.specs.declared.reason.State.{State as StateValue};
 ghost use Rattle.smk_plan_states.specs.Judged.{Judging};
 ghost use Rattle.smk_plan_states.specs.First.{first_states};
 ghost use Rattle.smk_plan_states.specs.Moment.{IsMoment};
 ghost use Rattle.smk_plan_states.specs.Ranks.{rank_of};
-ghost use Rattle.smk_plan_states.specs.Ranking.{has_link, is_link, is_needed_at, is_needed_by_flags, last_rank};
+ghost use Rattle.smk_plan_states.specs.Ranking.{has_link, is_link, is_needed_at, is_needed_by_flags, is_lacking, lacks, last_rank};
+ghost use Rattle.smk_plan_states.specs.Rows.{lent};
 
 use crate::lines::{Input, Line, Origin, Output};
-use crate::ranks::{Rank, is_to_run, unless_needed};
+use crate::ranks::{Rank, is_clean_rank, is_to_run, unless_needed};
 use crate::rows::Rows;
 use crate::spots::{flag_at, row_at};
-use smk_base::OutOfMemory;
+use smk_base::{List, OutOfMemory};
 use std::alloc::Global;
 
 /// Flags that are all false.
@@ -104,9 +105,35 @@ fn last_rank(
     unless_needed(wanted, first)
 }
 
-/// The rank of each job, by the ranks of the first pass: a job that is Clean there is a Restore where a job that is to run reads an output
-/// of it that isn't whole, unless a child reads what it made.
-pub(crate) fn last_ranks(
+/// Whether an output isn't whole.
+pub(crate) fn lacks(flags: &[bool]) -> bool
+    ensures { result ≡ lacks flags.now }
+{
+    for whole in flags {
+        if !*whole {
+            return true;
+        }
+    }
+    false
+}
+
+// Whether a job is Clean of which an output isn't whole.
+fn any_lacking(ranks: &[Rank], outputs: &[&List<bool>]) -> bool
+    ensures { result ≡ list_any is_lacking (zip ranks.now (lent outputs.now)) }
+{
+    for (i, rank) in ranks.iter().enumerate() {
+        let Some(flags) = outputs.get(i) else {
+            return false;
+        };
+        if is_clean_rank(*rank) && lacks(flags.as_slice()) {
+            return true;
+        }
+    }
+    false
+}
+
+// The ranks from the last job to the first, by what those behind are to read.
+fn needed_ranks(
     alloc: Global,
     lines: &[Line],
     origins: &[Origin],
@@ -138,4 +165,26 @@ pub(crate) fn last_ranks(
         ranks[number] = rank;
     }
     Ok(ranks)
+}
+
+/// The rank of each job, by the ranks of the first pass: a job that is Clean there is a Restore where a job that is to run reads an output
+/// of it that isn't whole, unless a child reads what it made.
+pub(crate) fn last_ranks(
+    alloc: Global,
+    lines: &[Line],
+    origins: &[Origin],
+    rows: &Rows<'_>,
+    used: &[bool],
+    first: Vec<Rank>,
+) -> Result<Vec<Rank>, OutOfMemory>
+    requires each { length first.items ≡ length lines.now }
+    ensures each { IfOk result (λ ranks. length ranks.items ≡ length lines.now) }
+    ensures ranks { IfOk result (λ ranks. (at : Judging) (jobs : JobsValue) (states : Items StateValue)
+        → IsMoment at jobs states lines.now origins.now rows.now used.now
+        → first.items ≡ map rank_of (first_states at jobs states) → ranks.items ≡ map rank_of states) }
+{
+    if any_lacking(first.as_slice(), rows.outputs) {
+        return needed_ranks(alloc, lines, origins, rows, used, first);
+    }
+    Ok(first)
 }

@@ -4,10 +4,14 @@ ghost use Rattle.std.specs.Prelude.{◌≡◌, ◌<◌, ◌&&◌, ◌||◌, ℕ,
 ghost use Rattle.std.specs.List.{list_any, zip};
 ghost use Rattle.smk_trigger.specs.JobStates.{is_clean, is_to_run};
 ghost use Rattle.smk_plan_states.specs.Rows.{lent};
-ghost use Rattle.smk_plan_states.specs.Ranking.{is_held_by, is_kept_by, is_needed_by_flags, is_needed_in};
+ghost use Rattle.smk_plan_states.specs.Ranking.{is_held_by, is_kept_by, is_lent_lacking, is_needed_by_flags, is_needed_in};
+ghost use Rattle.smk_chain.specs.declared.jobs.Jobs.{Jobs as JobsValue};
+ghost use Rattle.smk_plan_states.specs.Judged.{Judging, any_held_back};
+ghost use Rattle.smk_plan_states.specs.Moment.{IsMoment};
 
-use crate::downward::{is_needed, need, unset};
-use crate::lines::{Line, Output};
+use crate::downward::{is_needed, lacks, need, unset};
+use crate::lines::{Line, Origin, Output};
+use crate::rows::Rows;
 use crate::upward::is_kept;
 use smk_base::{List, OutOfMemory};
 use smk_trigger::State;
@@ -19,8 +23,8 @@ fn is_to_run(state: &State) -> bool
     matches!(state, State::Dirty(_) | State::Restore)
 }
 
-/// For each link whether a job that is to run reads its path; there are so many of them.
-pub(crate) fn needed_in(
+// For each link whether a job that is to run reads its path; there are so many of them.
+fn needed_in(
     alloc: Global,
     count: usize,
     lines: &[Line],
@@ -66,8 +70,8 @@ fn is_held(
     is_resting(state, begun) && (used && is_wanted(needed, line.outputs.as_slice(), flags))
 }
 
-/// Whether one of the jobs is held back. `used` has for each job whether a child reads what it made.
-pub(crate) fn is_any_held(
+// Whether one of the jobs is held back. `used` has for each job whether a child reads what it made.
+fn is_any_held(
     needed: &[bool],
     lines: &[Line],
     states: &[State],
@@ -95,4 +99,47 @@ pub(crate) fn is_any_held(
         }
     }
     false
+}
+
+// Whether a job counts as Clean that may be held back: a child reads what it made, and an output of it isn't whole.
+fn may_be_held(states: &[State], used: &[bool], outputs: &[&List<bool>]) -> bool
+    ensures { result ≡ list_any is_lent_lacking (zip states.now (zip used.now (lent outputs.now))) }
+{
+    for (i, state) in states.iter().enumerate() {
+        let Some(used) = used.get(i) else {
+            return false;
+        };
+        let Some(flags) = outputs.get(i) else {
+            return false;
+        };
+        if matches!(state, State::Clean) && (*used && lacks(flags.as_slice())) {
+            return true;
+        }
+    }
+    false
+}
+
+/// Whether one of the jobs of these states is held back. `used` has for each job whether a child reads what it made.
+pub(crate) fn any_held(
+    alloc: Global,
+    lines: &[Line],
+    origins: &[Origin],
+    rows: &Rows<'_>,
+    used: &[bool],
+    states: &[State],
+) -> Result<bool, OutOfMemory>
+    ensures { IfOk result (λ held. (at : Judging) (jobs : JobsValue) → IsMoment at jobs states.now lines.now origins.now rows.now used.now → held ≡ any_held_back at jobs states.now) }
+{
+    if !may_be_held(states, used, rows.outputs) {
+        return Ok(false);
+    }
+    let needed = needed_in(alloc, origins.len(), lines, states)?;
+    Ok(is_any_held(
+        needed.as_slice(),
+        lines,
+        states,
+        rows.running,
+        used,
+        rows.outputs,
+    ))
 }

@@ -1,6 +1,7 @@
 //! The states of the jobs of a plan.
 #![tactic(auto)]
 
+mod after;
 mod awaits;
 mod downward;
 mod folders;
@@ -18,11 +19,12 @@ mod rows;
 mod spots;
 mod table;
 mod upward;
+mod watching;
 mod ways;
 
 pub use judged::Judged;
 pub use laws::linked_jobs_serve;
 pub use lines::{Awaited, Gathered, Input, Line, Origin, Output, Target, Temp};
-pub use reasons::{reasons_again, state_again};
+pub use reasons::state_again;
 pub use rows::Rows;
 pub use table::Table;

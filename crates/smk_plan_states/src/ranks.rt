@@ -54,6 +54,13 @@ pub(crate) fn is_to_run(rank: Rank) -> bool
     matches!(rank, Rank::Dirty | Rank::Restore)
 }
 
+/// Whether the rank is Clean.
+pub(crate) fn is_clean_rank(rank: Rank) -> bool
+    ensures { result ≡ is_clean_rank rank }
+{
+    matches!(rank, Rank::Clean)
+}
+
 /// The rank of a job that isn't Open.
 pub(crate) fn by_rank(dirty: bool, restores: bool) -> Rank
     ensures { result ≡ by_rank dirty restores }

@@ -1,6 +1,6 @@
 //! The states of jobs by their ranks, with the reasons of those that are Dirty.
 
-ghost use Rattle.std.specs.Prelude.{◌≡◌, ◌++◌, Bool, List as Items, length, map, option_map, slice_index_or, None, false, [], IfOk, OnOk};
+ghost use Rattle.std.specs.Prelude.{◌≡◌, ◌++◌, Bool, List as Items, length, map, option_map, slice_index_or, None, false, true, [], ◌∷◌, IfOk, IfSome, OnOk};
 ghost use Rattle.smk_world.specs.Trees.{Path};
 ghost use Rattle.smk_chain.specs.declared.jobs.Jobs.{Jobs as JobsValue};
 ghost use Rattle.smk_trigger.specs.declared.reason.Reason.{Reason as ReasonValue};
@@ -17,8 +17,8 @@ use crate::ranks::Rank;
 use crate::rows::Rows;
 use crate::spots::{began_at, flag_at, row_at};
 use crate::upward::is_upstream;
-use smk_base::{List, OutOfMemory};
-use smk_trigger::{Reason, State};
+use smk_base::{List, OutOfMemory, PathText};
+use smk_trigger::{Reason, Reasons, State};
 use std::alloc::Global;
 
 // A copy of the reason.
@@ -38,8 +38,8 @@ fn reason_again(alloc: Global, reason: &Reason) -> Result<Reason, OutOfMemory>
     }
 }
 
-/// A copy of the reasons. `OutOfMemory` where there is no memory for it.
-pub fn reasons_again(alloc: Global, reasons: &[Reason]) -> Result<List<Reason>, OutOfMemory>
+// A copy of the reasons.
+fn reasons_again(alloc: Global, reasons: &[Reason]) -> Result<List<Reason>, OutOfMemory>
     ensures { IfOk result (λ copy. copy ≡ reasons.now) }
 {
     let mut copy = List::new(alloc);
@@ -49,13 +49,13 @@ pub fn reasons_again(alloc: Global, reasons: &[Reason]) -> Result<List<Reason>, 
     Ok(copy)
 }
 
-/// A copy of the state. `OutOfMemory` where there is no memory for it.
-pub fn state_again(alloc: Global, state: &State) -> Result<State, OutOfMemory>
+/// A copy of the state, which shares its reasons. `OutOfMemory` where these have too many copies to be counted.
+pub fn state_again(state: &State) -> Result<State, OutOfMemory>
     ensures { IfOk result (λ copy. copy ≡ state.now) }
 {
     match state {
         State::Open => Ok(State::Open),
-        State::Dirty(reasons) => Ok(State::Dirty(reasons_again(alloc, reasons.as_slice())?)),
+        State::Dirty(reasons) => Ok(State::Dirty(reasons.copy()?)),
         State::Restore => Ok(State::Restore),
         State::Clean => Ok(State::Clean),
     }
@@ -135,9 +135,143 @@ fn all_reasons(
     Ok(found)
 }
 
+// Whether these are the same reason.
+fn is_same(one: &Reason, other: &Reason) -> bool
+    ensures { result ≡ true → one.now ≡ other.now }
+{
+    match (one, other) {
+        (Reason::New, Reason::New) => true,
+        (Reason::Marked, Reason::Marked) => true,
+        (Reason::BadRecord, Reason::BadRecord) => true,
+        (Reason::Code, Reason::Code) => true,
+        (Reason::Params, Reason::Params) => true,
+        (Reason::Inputs, Reason::Inputs) => true,
+        (Reason::Updated(path), Reason::Updated(found)) => path.as_str() == found.as_str(),
+        (Reason::Upstream(path), Reason::Upstream(found)) => path.as_str() == found.as_str(),
+        (Reason::Forced, Reason::Forced) => true,
+        _ => false,
+    }
+}
+
+// What stands behind these reasons in the list, where it begins with them.
+fn behind<'l>(list: &'l [Reason], front: &[Reason]) -> Option<&'l [Reason]>
+    ensures { IfSome result (λ rest. list.now ≡ front.now ++ rest.now) }
+{
+    let mut rest = list;
+    for reason in front {
+        let Some((first, later)) = rest.split_first() else {
+            return None;
+        };
+        if !is_same(first, reason) {
+            return None;
+        }
+        rest = later;
+    }
+    Some(rest)
+}
+
+// What stands behind the reason that the input's job is Dirty, where the list begins with it.
+fn behind_upstream<'l>(list: &'l [Reason], path: &PathText) -> Option<&'l [Reason]>
+    ensures { IfSome result (λ rest. list.now ≡ Reason.Upstream path.now ∷ rest.now) }
+{
+    match list.split_first() {
+        Some((Reason::Upstream(found), rest)) => {
+            if found.as_str() == path.as_str() {
+                Some(rest)
+            } else {
+                None
+            }
+        }
+        _ => None,
+    }
+}
+
+// What stands behind the inputs whose job is Dirty, each once, where the list begins with them.
+fn behind_upstreams<'l>(
+    list: &'l [Reason],
+    ranks: &[Rank],
+    origins: &[Origin],
+    inputs: &[Input],
+) -> Option<&'l [Reason]>
+    ensures { IfSome result (λ rest. list.now ≡ map (λ q. Reason.Upstream q) (upstream_paths ranks.now origins.now inputs.now) ++ rest.now) }
+{
+    let mut rest = list;
+    for input in inputs {
+        if is_upstream(ranks, origins, input) {
+            let Some(later) = behind_upstream(rest, &input.path) else {
+                return None;
+            };
+            rest = later;
+        }
+    }
+    Some(rest)
+}
+
+// Whether the list is Forced alone where the job is forced, and else empty.
+fn is_force(list: &[Reason], forced: bool) -> bool
+    ensures { result ≡ true → list.now ≡ when forced Reason.Forced }
+{
+    match list.split_first() {
+        None => !forced,
+        Some((first, later)) => forced && matches!(first, Reason::Forced) && later.is_empty(),
+    }
+}
+
+// Whether these are the reasons of a job: its own, then the inputs whose job is Dirty, then Forced.
+fn are_reasons(
+    list: &[Reason],
+    ranks: &[Rank],
+    origins: &[Origin],
+    inputs: &[Input],
+    own: &[Reason],
+    forced: bool,
+) -> bool
+    ensures { result ≡ true → (alone : Items ReasonValue) → own.now ≡ alone ++ when forced Reason.Forced
+        → list.now ≡ alone ++ (map (λ q. Reason.Upstream q) (upstream_paths ranks.now origins.now inputs.now) ++ when forced Reason.Forced) }
+{
+    let Some(rest) = behind(list, without_forced(own, forced)) else {
+        return false;
+    };
+    let Some(rest) = behind_upstreams(rest, ranks, origins, inputs) else {
+        return false;
+    };
+    is_force(rest, forced)
+}
+
+// The reasons of a job, which are shared with those that it had, where these are the same.
+fn reasons_like(
+    alloc: Global,
+    had: Option<&Reasons>,
+    ranks: &[Rank],
+    origins: &[Origin],
+    inputs: &[Input],
+    own: &[Reason],
+    forced: bool,
+) -> Result<Reasons, OutOfMemory>
+    ensures { IfOk result (λ found. (alone : Items ReasonValue) → own.now ≡ alone ++ when forced Reason.Forced
+        → found ≡ alone ++ (map (λ q. Reason.Upstream q) (upstream_paths ranks.now origins.now inputs.now) ++ when forced Reason.Forced)) }
+{
+    if let Some(reasons) = had {
+        if are_reasons(reasons.as_slice(), ranks, origins, inputs, own, forced) {
+            return reasons.copy();
+        }
+    }
+    let found = all_reasons(alloc, ranks, origins, inputs, own, forced)?;
+    Reasons::of(alloc, found)
+}
+
+/// The reasons of the state, where it has some.
+pub(crate) fn reasons_in(state: Option<&State>) -> Option<&Reasons> {
+    match state {
+        Some(State::Dirty(reasons)) => Some(reasons),
+        _ => None,
+    }
+}
+
 // The state of this rank.
 fn plain_state(
     alloc: Global,
+    had: Option<&Reasons>,
     rank: Rank,
     ranks: &[Rank],
     origins: &[Origin],
@@ -150,15 +284,18 @@ fn plain_state(
 {
     match rank {
         Rank::Open => Ok(State::Open),
-        Rank::Dirty => Ok(State::Dirty(all_reasons(alloc, ranks, origins, inputs, own, forced)?)),
+        Rank::Dirty => Ok(State::Dirty(reasons_like(
+            alloc, had, ranks, origins, inputs, own, forced,
+        )?)),
         Rank::Restore => Ok(State::Restore),
         Rank::Clean => Ok(State::Clean),
     }
 }
 
-// The state of a job that has this rank among these, and had that state when its child began, if it runs.
-fn state_by(
+/// The state of a job that has this rank among these, and had that state when its child began, if it runs.
+pub(crate) fn state_by(
     alloc: Global,
+    had: Option<&Reasons>,
     begun: Option<&State>,
     rank: Rank,
     ranks: &[Rank],
@@ -172,18 +309,19 @@ fn state_by(
         (alone ++ (map (λ q. Reason.Upstream q) (upstream_paths ranks.now origins.now inputs.now) ++ when forced Reason.Forced))) }
 {
     match begun {
-        Some(State::Dirty(reasons)) => Ok(State::Dirty(reasons_again(alloc, reasons.as_slice())?)),
-        _ => plain_state(alloc, rank, ranks, origins, inputs, own, forced),
+        Some(State::Dirty(reasons)) => Ok(State::Dirty(reasons.copy()?)),
+        _ => plain_state(alloc, had, rank, ranks, origins, inputs, own, forced),
     }
 }
 
-/// The state of each job, by its rank.
+/// The state of each job, by its rank. Reasons are shared with those in the same place of `before`, where these are the same.
 pub(crate) fn states_of(
     alloc: Global,
     lines: &[Line],
     origins: &[Origin],
     rows: &Rows<'_>,
     ranks: &[Rank],
+    before: &[State],
 ) -> Result<List<State>, OutOfMemory>
     requires each { length ranks.now ≡ length lines.now }
     ensures each { IfOk result (λ states. length states ≡ length lines.now) }
@@ -194,6 +332,7 @@ pub(crate) fn states_of(
     for (number, line) in lines.iter().enumerate() {
         let state = state_by(
             alloc,
+            reasons_in(before.get(number)),
             began_at(rows.running, number),
             ranks[number],
             ranks,

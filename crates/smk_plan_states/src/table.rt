@@ -12,7 +12,7 @@ ghost use Rattle.smk_plan_states.specs.Tables.{IsTableAt, IsTableOf};
 
 use crate::awaits::{each_once, spot_paths, spots_in};
 use crate::downward::last_ranks;
-use crate::holding::{is_any_held, needed_in};
+use crate::holding::any_held;
 use crate::in_use::used_in;
 use crate::lines::{Awaited, Line, Origin, Target};
 use crate::making::{Wants, lines_of, origins_of, targets_of};
@@ -44,6 +44,7 @@ fn solve(
     origins: &[Origin],
     rows: &Rows<'_>,
     used: &[bool],
+    before: &[State],
 ) -> Result<List<State>, OutOfMemory>
     ensures each { IfOk result (λ states. length states ≡ length lines.now) }
     ensures states { IfOk result (λ found. (at : Judging) (jobs : JobsValue) (states : Items StateValue)
@@ -51,7 +52,7 @@ fn solve(
 {
     let first = first_ranks(alloc, lines, origins, rows, used)?;
     let ranks = last_ranks(alloc, lines, origins, rows, used, first)?;
-    let states = states_of(alloc, lines, origins, rows, ranks.as_slice())?;
+    let states = states_of(alloc, lines, origins, rows, ranks.as_slice(), before)?;
     Ok(states)
 }
 
@@ -103,14 +104,21 @@ impl Table {
     ///
     /// A job that began Dirty stays so while its child runs, and one that began as a Restore isn't Clean. A Restore counts as Clean while a child
     /// reads what it made. The time is linear in the jobs with their inputs and outputs, and the reasons of those that are Dirty.
-    pub fn states(&self, alloc: Global, rows: &Rows<'_>) -> Result<List<State>, OutOfMemory>
+    ///
+    /// `before` are states that the jobs had, or none: a job whose reasons are the same as there shares them, and takes no memory for them.
+    pub fn states(
+        &self,
+        alloc: Global,
+        rows: &Rows<'_>,
+        before: &[State],
+    ) -> Result<List<State>, OutOfMemory>
         ensures each { IfOk result (λ states. (jobs : JobsValue) (targets : Items Path) → IsTableOf jobs targets self.now → length states ≡ length jobs.jobs) }
         ensures table { IfOk result (λ states. (at : Judging) (jobs : JobsValue) → IsTableAt at jobs self.now → AreRowsAt at jobs rows.now → AreStates at jobs states) }
     {
         let lines = self.lines.as_slice();
         let origins = self.origins.as_slice();
         let used = used_in(alloc, lines, origins, rows.running)?;
-        let states = solve(alloc, lines, origins, rows, used.as_slice())?;
+        let states = solve(alloc, lines, origins, rows, used.as_slice(), before)?;
         Ok(states)
     }
 
@@ -185,14 +193,7 @@ impl Table {
         let lines = self.lines.as_slice();
         let origins = self.origins.as_slice();
         let used = used_in(alloc, lines, origins, rows.running)?;
-        let needed = needed_in(alloc, origins.len(), lines, states)?;
-        Ok(is_any_held(
-            needed.as_slice(),
-            lines,
-            states,
-            rows.running,
-            used.as_slice(),
-            rows.outputs,
-        ))
+        let held = any_held(alloc, lines, origins, rows, used.as_slice(), states)?;
+        Ok(held)
     }
 }

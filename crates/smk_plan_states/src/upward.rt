@@ -87,7 +87,7 @@ fn table_rank(
     by_rank(dirty, kept)
 }
 
-fn first_rank(
+pub(crate) fn first_rank(
     ranks: &[Rank],
     origins: &[Origin],
     rows: &Rows<'_>,

@@ -112,6 +112,8 @@ fn plan_by<T: Told>(
 ///
 /// The time is linear in the jobs with their inputs and outputs, by numbers; paths are looked up only of targets that are sources and of directories that have
 /// become ready, and of the outputs of jobs where something is suspected.
+///
+/// `before` are states that the jobs had, or none: a job whose reasons are the same as there shares them.
 pub fn plan_now<T: Told>(
     alloc: Global,
     jobs: &Jobs,
@@ -121,6 +123,7 @@ pub fn plan_now<T: Told>(
     rows: &Rows<'_>,
     begun: &[bool],
     suspects: &[Suspect],
+    before: &[State],
 ) -> Result<Plan, PlanFault>
     requires table { IsTableOf jobs.now settings.now.targets table.now }
     ensures each { IfOk result (λ made. length made.states ≡ length jobs.now.jobs) }
@@ -130,7 +133,7 @@ pub fn plan_now<T: Told>(
     ensures refused { IfErr result (λ fault. fault ≢ PlanFault.OutOfMemory → WhereAgreed jobs.now (T.known told.now) (T.seen told.now) settings.now
         (λ at. IsGiven at jobs.now (T.known told.now) (T.seen told.now) rows.now begun.now suspects.now → IsRefusedAt at jobs.now fault)) }
 {
-    match table.states(alloc, rows) {
+    match table.states(alloc, rows, before) {
         Err(_) => Err(PlanFault::OutOfMemory),
         Ok(states) => plan_by(
             alloc, jobs, table, told, settings, rows, begun, suspects, states,
@@ -190,6 +193,7 @@ fn plan_of<T: Told>(
                 &rows,
                 basis.begun.as_slice(),
                 basis.suspects.as_slice(),
+                &[],
             )
         }
     }

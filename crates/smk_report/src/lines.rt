@@ -3,7 +3,7 @@
 ghost use Rattle.std.specs.Prelude.{◌≡◌, ◌++◌, ◌∷◌, [], IfOk, OnOk, string_bytes, codes};
 ghost use Rattle.smk_report.specs.Lines as spec;
 
-use smk_base::{List, OutOfMemory, PathText, Text};
+use smk_base::{OutOfMemory, PathText, Text};
 use smk_trigger::Reason;
 use std::alloc::{AllocError, Global};
 
@@ -74,10 +74,10 @@ fn push_reasons(text: &mut String, reasons: &[Reason]) -> Result<(), AllocError>
 }
 
 /// The reasons in order, with `, ` between them. `OutOfMemory` where there is no memory for the text.
-pub fn reason_text(alloc: Global, list: &List<Reason>) -> Result<Text, OutOfMemory>
-    ensures { IfOk result (λ text. text ≡ spec.reason_text list.now) }
+pub fn reason_text(alloc: Global, reasons: &[Reason]) -> Result<Text, OutOfMemory>
+    ensures { IfOk result (λ text. text ≡ spec.reason_text reasons.now) }
 {
     let mut text = String::new(alloc);
-    push_reasons(&mut text, list.as_slice())?;
+    push_reasons(&mut text, reasons)?;
     Text::of(alloc, text.as_str())
 }

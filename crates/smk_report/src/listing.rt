@@ -11,7 +11,7 @@ use smk_trigger::{Reason, State};
 use std::alloc::{AllocError, Global};
 
 // What follows on a job that has to run.
-fn reasons_after(alloc: Global, reasons: &List<Reason>) -> Result<String, OutOfMemory>
+fn reasons_after(alloc: Global, reasons: &[Reason]) -> Result<String, OutOfMemory>
     ensures { IfOk result (λ text. string_bytes text ≡ codes ": " ++ spec.reason_text reasons.now) }
 {
     let text = reason_text(alloc, reasons)?;
@@ -31,7 +31,7 @@ pub fn state_line(
     match state {
         State::Open => job_line(alloc, "open", rule, path, ""),
         State::Dirty(reasons) => {
-            let rest = reasons_after(alloc, reasons)?;
+            let rest = reasons_after(alloc, reasons.as_slice())?;
             job_line(alloc, "run", rule, path, rest.as_str())
         }
         State::Restore => job_line(alloc, "restore", rule, path, ""),

@@ -8,6 +8,7 @@ mod judging;
 mod kept;
 mod reason;
 mod same;
+mod shared;
 mod updates;
 
 pub use facts::JobFacts;
@@ -15,3 +16,4 @@ pub use judge::{Judge, Plain};
 pub use judged::all_reasons;
 pub use judging::reasons;
 pub use reason::{Reason, State};
+pub use shared::Reasons;

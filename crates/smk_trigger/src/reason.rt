@@ -1,4 +1,5 @@
-use smk_base::{List, PathText};
+use crate::shared::Reasons;
+use smk_base::PathText;
 
 /// Why a job has to run.
 #[derive(Drop)]
@@ -28,7 +29,7 @@ pub enum State {
     /// Its inputs aren't known yet.
     Open,
     /// It has to run.
-    Dirty(List<Reason>),
+    Dirty(Reasons),
     /// Something that it made is gone and wanted back.
     Restore,
     Clean,

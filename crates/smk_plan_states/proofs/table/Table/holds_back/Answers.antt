@@ -1,6 +1,5 @@
-use Rattle.std.proofs.Common.{◌∙◌, List, Bool, false, get_or, arith, ap}
+use Rattle.std.proofs.Common.{◌∙◌}
 use Rattle.smk_plan_states.proofs.UsedBy.{used_are}
-use Rattle.smk_plan_states.proofs.HeldByLinks.{held_are}
 use Rattle.smk_plan_states.proofs.table.Table.holds_back.Goals as goal
 
 pub returns : goal.returns
@@ -10,8 +9,5 @@ returns c = λ at jobs table rows solved.
     let used =
     used_are at jobs at.settings.targets table.served c.as_slice-lines.result.now c.as_slice-origins.result.now c.args.rows.now.running.now c.in_ok-used.used.items
     lines origins rows.running c.in_ok-used.ensures.each c.in_ok-used.ensures.used in
-    c.is_any_held.ensures
-    ∙ held_are at jobs c.args.states.now c.as_slice-lines.result.now c.as_slice-origins.result.now c.args.rows.now c.as_slice-2.result.now
-    (record { served = table.served; solved = solved; each_line = lines; each_origin = origins; told = rows; read = c.as_slice-2.ensures.value ∙ used })
-    c.as_slice.result.now
-    (λ n lt. ap (λ (fs : List Bool). get_or fs n false) c.as_slice.ensures.value ∙ c.in_ok-needed.ensures n (omega arith))
+    c.in_ok-held.ensures at jobs
+    (record { served = table.served; solved = solved; each_line = lines; each_origin = origins; told = rows; read = c.as_slice.ensures.value ∙ used })

@@ -1,0 +1,60 @@
+-- Where too little is left for a job that asks for no amounts, too little is left for it with amounts.
+use Rattle.std.proofs.Common.{◌≡◌, ℕ, ◌+◌, arith, Bool, true, false, not, ◌&&◌, List, [], ◌∷◌, refl, sym, ◌∙◌, true≢false, ap, Option, Some, None}
+use Rattle.std.specs.Prelude.{nat_le, if◌then◌else◌}
+use Rattle.std.proofs.Math.Bool.{and-false}
+use Rattle.std.specs.List.{list_all}
+use Rattle.std.proofs.lemmas.Bool.{and_from}
+use Rattle.std.proofs.lemmas.Bool.Decides.{nat_tests}
+use Rattle.smk_base.specs.declared.tree.Amount.{Amount}
+use Rattle.smk_flow.specs.declared.job.Job.{Job}
+use Rattle.smk_pick.specs.declared.room.Room.{Room}
+use Rattle.smk_pick.specs.declared.room.Share.{Share}
+use Rattle.smk_pick.specs.Rooms.{amount, threads_in}
+use Rattle.smk_pick.specs.Shares.{has_room, fits_in}
+use Rattle.smk_drive.specs.Lawful.{ask_of}
+use Rattle.smk_trigger.specs.declared.reason.State.{State}
+use Rattle.smk_laws_plan.proofs.CurrentLists.{and_left, and_right}
+use Rattle.smk_drive_pick.specs.declared.next.Best.{Best}
+use Rattle.smk_drive_pick.specs.declared.next.Ground.{Ground}
+use Rattle.smk_drive_pick.specs.Grounds.{is_free_by, may_begin_by}
+use Rattle.smk_drive_pick.specs.Told.{better, if_passes}
+
+less : (used asked bound : ℕ) → nat_le (used + asked) bound ≡ true → nat_le (used + 0) bound ≡ true
+less used asked bound h = grind (arith, nat_tests)
+
+all_less : (asked : List Amount) (shares : List Share) → list_all (has_room asked) shares ≡ true → list_all (has_room []) shares ≡ true
+all_less asked [] h = refl
+all_less asked (s ∷ shares) h =
+    and_from (has_room [] s) (list_all (has_room []) shares)
+    (less s.used (amount asked s.bound.name) s.bound.count (and_left (has_room asked s) (list_all (has_room asked) shares) h))
+    (all_less asked shares (and_right (has_room asked s) (list_all (has_room asked) shares) h))
+
+pub full_for :
+    (room : Room) (job : Job) (none : List Amount) (fits : Bool) → none ≡ [] → fits ≡ fits_in room (record { threads = job.threads; amounts = none; priority = job.priority }) →
+    not fits ≡ true → fits_in room (ask_of job) ≡ false
+full_for room job none fits bare is h =
+    go (nat_le (room.threads + threads_in room.cores job.threads) room.cores) (list_all (has_room []) room.shares.items) (list_all (has_room job.amounts) room.shares.items)
+    (all_less job.amounts room.shares.items)
+    (ap (λ (xs : List Amount). nat_le (room.threads + threads_in room.cores job.threads) room.cores && list_all (has_room xs) room.shares.items) (sym bare) ∙ sym is ∙ turned fits h)
+  where
+    turned : (b : Bool) → not b ≡ true → b ≡ false
+    turned false h = refl
+    turned true h = absurd (true≢false (sym h))
+
+    go : (b bare all : Bool) → (all ≡ true → bare ≡ true) → (b && bare) ≡ false → (b && all) ≡ false
+    go false bare all k h = refl
+    go true bare false k h = refl
+    go true bare true k h = absurd (true≢false (sym (k refl) ∙ h))
+
+-- the best so far stays, where the room is full for the job
+pub stays_full :
+    (told : Ground) (room : Room) (job : Job) (best : Option Best) (n : ℕ) (state : State) → fits_in room (ask_of job) ≡ false →
+    better best (if_passes (may_begin_by told room n) n (job, state)) ≡ best
+stays_full told room job best n state full =
+    ap (λ (b : Bool). better best (if b then Some (record { number = n; priority = job.priority }) else None))
+    (ap (λ b. is_free_by told n state && b) full ∙ and-false (is_free_by told n state))
+    ∙ none best
+  where
+    none : (o : Option Best) → better o None ≡ o
+    none None = refl
+    none (Some b) = refl

@@ -1,0 +1,9 @@
+use Rattle.smk_drive_pick.specs.Grounds.{may_begin_by}
+use Rattle.smk_drive_pick.proofs.Full.{stays_full}
+use Rattle.smk_drive_pick.proofs.next.is_passed_over.Goals as goal
+
+pub returns-then-is_no_better : goal.returns-then-is_no_better
+returns-then-is_no_better c = λ h told number state. c.is_no_better.ensures c.if-is_no_better.true (may_begin_by told c.args.room.now number) number state
+
+pub returns : goal.returns
+returns c = λ h told number state. stays_full told c.args.room.now c.args.job.now c.args.best number state (c.is_full.ensures h)
