@@ -30,7 +30,7 @@ use Rattle.smk_plan_states.specs.Rows.{lent}
 use Rattle.smk_plan_states.specs.Ranks.{rank_of, rank_at, is_open_rank, is_dirty_rank, is_clean_rank, by_rank, rank_while_running, state_by}
 use Rattle.smk_plan_states.specs.Spots.{origin_at, maker_at, over_flag, spot_of, spot_in}
 use Rattle.smk_plan_states.specs.Ranking.{has_any, reading_opens_by, gathering_opens_by, input_opens, gathered_opens, opens_by, is_upstream, dirties_by, is_kept_by, table_rank, first_rank, is_link, upstream_paths}
-use Rattle.smk_plan_states.specs.Stays.{Told, told_by, spot_told, rank_told, AreBuilt, AreFirst, AreRowsBut, IsStateAfter, IsUntouched, has_number, is_made_by, reads_of}
+use Rattle.smk_plan_states.specs.Stays.{Told, told_by, spot_told, rank_told, OfSome, OfLine, IsByEarlier, AreEarlier, IsBuiltAt, AreBuilt, AreFirst, AreRowsBut, IsStateAfter, IsUntouched, has_number, is_made_by, reads_of}
 use Rattle.std.proofs.lemmas.List.{map-append, length-map, take_all, append_cancel_right}
 use Rattle.std.proofs.lemmas.Option.{slice_get-map, get_or_from_slice_get}
 use Rattle.std.proofs.lemmas.Bool.{eqb-true, eqb-false, eq-eqb}
@@ -68,15 +68,6 @@ any_alike P f g h [] all = refl
 any_alike P f g h (x ∷ xs) (one, all) = let a = h x one in let b = any_alike P f g h xs all in λ i. a i || b i
 
 -- ## What a rank asks for
-
--- it holds of the number, where there is one
-abbrev pub OfSome : (ℕ → Type 0) → Option ℕ → Type 0
-OfSome ok None = Unit {0}
-OfSome ok (Some m) = ok m
-
--- it holds of the jobs that are told to make what the line has
-abbrev pub OfLine : (ℕ → Type 0) → List Origin → Line → Type 0
-OfLine ok origins line = Each (λ (i : Input). OfSome ok (maker_at origins i.link)) line.inputs × Each (λ (g : Gathered). OfSome ok (maker_at origins g.link)) line.gathers
 
 module _
     (v u : List Rank) (origins : List Origin) (now before : Told) (ok : ℕ → Type 0)
@@ -394,13 +385,13 @@ pub states_stay :
 states_stay lines origins before now was used doubts u v ss found job readers built rows agree anew stays others = record { each = each }
   where
     each :
-        (n : ℕ) (line : Line) (alone : List Reason) → slice_get lines n ≡ Some line →
+        (n : ℕ) (line : Line) → slice_get lines n ≡ Some line → (alone : List Reason) →
         slice_index_or now.reasons n [] ≡ alone ++ when (slice_index_or now.forced n false) Forced →
         slice_get found n
         ≡ Some
         (state_by (slice_index_or now.running n None) (slice_index_or v n AtOpen)
         (alone ++ (map Upstream (upstream_paths v origins line.inputs) ++ when (slice_index_or now.forced n false) Forced)))
-    each n line alone e own = go (slice_index_or doubts n false) refl
+    each n line e alone own = go (slice_index_or doubts n false) refl
       where
         go :
             (b : Bool) → slice_index_or doubts n false ≡ b →
@@ -418,7 +409,7 @@ states_stay lines origins before now was used doubts u v ss found job readers bu
             let ups = upstreams_alike v u origins job agree line.inputs links.0 in
             let own_before : slice_index_or before.reasons n [] ≡ alone ++ when (slice_index_or before.forced n false) Forced =
             sym (index_alike now.reasons before.reasons n [] (rows.reasons n x.other x.no_reader)) ∙ own ∙ ap (λ b. alone ++ when b Forced) forced in
-            stays n line e d ∙ built.each n line alone e own_before
+            stays n line e d ∙ built.each n line e alone own_before
             ∙ sym (λ i. Some (state_by (run i) (rank i) (alone ++ (map Upstream (ups i) ++ when (forced i) Forced))))
 
 all_alike : {A : Type 0} (xs ys : List A) → length xs ≡ length ys → ((n : ℕ) → n < length xs → slice_get xs n ≡ slice_get ys n) → xs ≡ ys
@@ -477,7 +468,7 @@ module _
   pub states_told : AreBuilt lines origins (told_by rows) (map rank_of ss) ss
   states_told =
       record {
-        each = λ n line alone e own.
+        each = λ n line e alone own.
             let x = at_number n line e in
             let same : alone ≡ own_of at.image at.settings at.progress J x.job =
             append_cancel_right alone (own_of at.image at.settings at.progress J x.job) (when (slice_index_or rows.forced.now n false) Forced) (sym own ∙ x.alone) in
@@ -500,7 +491,7 @@ module _
           let l = split_at lines n (omega (arith, lt, long)) in
           let e : slice_get lines n ≡ Some l.0 = ap (λ (ls : List Line). slice_get ls n) l.1 ∙ there (take n lines) l.0 (drop (suc n) lines) n l.2 in
           let x = at_number n l.0 e in
-          built.each n l.0 (own_of at.image at.settings at.progress J x.job) e x.alone ∙ ap Some (sym x.made) ∙ sym x.state
+          built.each n l.0 e (own_of at.image at.settings at.progress J x.job) x.alone ∙ ap Some (sym x.made) ∙ sym x.state
 
 -- one state more
 pub state_more :
@@ -555,10 +546,6 @@ take_within xs ys zero h = refl
 take_within [] ys (suc n) h = absurd (omega arith)
 take_within (x ∷ xs) ys (suc n) h = ap (λ zs. x ∷ zs) (take_within xs ys n (omega arith))
 
--- the rank of the number is that by the ranks before it
-abbrev pub IsByEarlier : List Origin → Told → List Bool → List Rank → ℕ → Line → Type 0
-IsByEarlier origins rows used ranks n line = slice_get ranks n ≡ Some (rank_told (take n ranks) origins rows line n (slice_index_or used n false))
-
 pub first_more :
     (lines : List Line) (origins : List Origin) (rows : Told) (used : List Bool) (number : ℕ) (line : Line) (u : Bool) (rank : Rank) (old seen new : List Rank) →
     number < length lines → line ≡ get_or lines number line → u ≡ get_or used number false → seen ≡ old → rank ≡ rank_told seen origins rows line number u → new ≡ old ++ rank ∷ [] →
@@ -575,10 +562,6 @@ first_more lines origins rows used number line u rank old seen new within is fla
     ap (λ (rs : List Rank). slice_get rs n) made ∙ front_alike old (rank ∷ []) n (omega (arith, lt, long)) ∙ so_far n l lt e
     ∙ ap (λ (rs : List Rank). Some (rank_told rs origins rows l n (slice_index_or used n false)))
     (sym (take_within old (rank ∷ []) n (omega (arith, lt, long))) ∙ ap (take n) (sym made)))
-
--- each line has links to earlier jobs alone
-abbrev pub AreEarlier : List Line → List Origin → Type 0
-AreEarlier lines origins = (n : ℕ) (line : Line) → slice_get lines n ≡ Some line → OfLine (λ m. m < n) origins line
 
 pub first_by_all :
     (lines : List Line) (origins : List Origin) (rows : Told) (used : List Bool) (ranks : List Rank) →
@@ -617,3 +600,21 @@ served_earlier J asked served n line e =
       inputs_below J n (job_path k) [] (in_paths k.recipe) (each_front (IsReadOf J n) (in_paths k.recipe) (gathers_from k) reads),
       gathers_below J n (gathers_from k) (each_back (IsReadOf J n) (in_paths k.recipe) (gathers_from k) reads),
     )
+
+-- one state more, by its rank
+pub built_more :
+    (lines : List Line) (origins : List Origin) (rows : Told) (ranks : List Rank) (number : ℕ) (line : Line) (inputs : List Input) (force : Bool) (own : List Reason) (begun : Option State) (rank : Rank) (state : State) (found new : List State) →
+    number < length lines → line ≡ get_or lines number line → inputs ≡ line.inputs → force ≡ get_or rows.forced number false → own ≡ get_or rows.reasons number [] →
+    begun ≡ get_or rows.running number None → rank ≡ get_or ranks number AtOpen →
+    ((alone : List Reason) → own ≡ alone ++ when force Forced → state ≡ state_by begun rank (alone ++ (map Upstream (upstream_paths ranks origins inputs) ++ when force Forced))) →
+    new ≡ found ++ state ∷ [] → length found ≡ number →
+    ((n : ℕ) (line : Line) → n < number → slice_get lines n ≡ Some line → IsBuiltAt origins rows ranks found n line) →
+    (n : ℕ) (line : Line) → n < number + 1 → slice_get lines n ≡ Some line → IsBuiltAt origins rows ranks new n line
+built_more lines origins rows ranks number line inputs force own begun rank state found new within is ins f o b r made n_is long so_far =
+    one_more lines (IsBuiltAt origins rows ranks new) number line within is
+    (λ alone h.
+    ap (λ (xs : List State). slice_get xs number) n_is ∙ there found state [] number long
+    ∙ ap Some
+    (made alone (o ∙ h ∙ ap (λ x. alone ++ when x Forced) (sym f))
+    ∙ (λ i. state_by (b i) (r i) (alone ++ (map Upstream (upstream_paths ranks origins (ins i)) ++ when (f i) Forced)))))
+    (λ n l lt e alone h. ap (λ (xs : List State). slice_get xs n) n_is ∙ front_alike found (state ∷ []) n (omega (arith, lt, long)) ∙ so_far n l lt e alone h)

@@ -1,6 +1,7 @@
 -- A step of one job: what stays of all others.
-use Rattle.std.specs.Prelude.{◌≡◌, ◌<◌, ℕ, Bool, false, true, ◌==◌, ◌||◌, ◌&&◌, not, if◌then◌else◌, ◌++◌, List, [], map, length, Option, Some, None, slice_index_or}
+use Rattle.std.specs.Prelude.{◌≡◌, ◌<◌, ℕ, Bool, false, true, ◌==◌, ◌||◌, ◌&&◌, not, if◌then◌else◌, ◌++◌, List, [], map, length, take, Option, Some, None, slice_index_or}
 use Rattle.std.specs.List.{list_any, slice_get}
+use Rattle.smk_world.specs.Trees.{Each}
 use Rattle.smk_trigger.specs.declared.reason.Reason.{Reason}
 use Rattle.smk_trigger.specs.declared.reason.Reason.TheVariants.{Upstream, Forced}
 use Rattle.smk_trigger.specs.declared.reason.State.{State}
@@ -47,6 +48,23 @@ rank_told ranks origins rows line number used =
     (if opens_by ranks (spot_told origins rows) line then AtOpen
     else by_rank (dirties_by ranks origins (slice_index_or rows.reasons number []) line) (is_kept_by line.outputs (slice_index_or rows.outputs number []) && not used))
 
+-- it holds of the number, where there is one
+abbrev pub OfSome : (ℕ → Type 0) → Option ℕ → Type 0
+OfSome ok None = Unit {0}
+OfSome ok (Some m) = ok m
+
+-- it holds of the jobs that are told to make what the line has
+abbrev pub OfLine : (ℕ → Type 0) → List Origin → Line → Type 0
+OfLine ok origins line = Each (λ (i : Input). OfSome ok (maker_at origins i.link)) line.inputs × Each (λ (g : Gathered). OfSome ok (maker_at origins g.link)) line.gathers
+
+-- the rank of the number is that by the ranks before it
+abbrev pub IsByEarlier : List Origin → Told → List Bool → List Rank → ℕ → Line → Type 0
+IsByEarlier origins rows used ranks n line = slice_get ranks n ≡ Some (rank_told (take n ranks) origins rows line n (slice_index_or used n false))
+
+-- each line has links to earlier jobs alone
+abbrev pub AreEarlier : List Line → List Origin → Type 0
+AreEarlier lines origins = (n : ℕ) (line : Line) → slice_get lines n ≡ Some line → OfLine (λ m. m < n) origins line
+
 -- the ranks of the first pass: each by those of the others
 pub record AreFirst (lines : List Line) (origins : List Origin) (rows : Told) (used : List Bool) (ranks : List Rank) : Type 0 where
   pub each : (n : ℕ) (line : Line) → slice_get lines n ≡ Some line → slice_get ranks n ≡ Some (rank_told ranks origins rows line n (slice_index_or used n false))
@@ -89,15 +107,19 @@ pub record AreWatched (lines : List Line) (origins : List Origin) (watchers : Li
       (n : ℕ) (line : Line) (job : ℕ) → job < length lines → slice_get lines n ≡ Some line → reads_of origins job line ≡ true →
       has_number n (slice_index_or watchers job []) ≡ true
 
--- the states of the ranks: each by its rank, with its own reasons and the inputs whose job is Dirty
+-- the state of the job of the number is that of its rank, with its own reasons and the inputs whose job is Dirty
+abbrev pub IsBuiltAt : List Origin → Told → List Rank → List State → ℕ → Line → Type 0
+IsBuiltAt origins rows ranks states n line =
+    (alone : List Reason) →
+    slice_index_or rows.reasons n [] ≡ alone ++ when (slice_index_or rows.forced n false) Forced →
+    slice_get states n
+    ≡ Some
+    (state_by (slice_index_or rows.running n None) (slice_index_or ranks n AtOpen)
+    (alone ++ (map Upstream (upstream_paths ranks origins line.inputs) ++ when (slice_index_or rows.forced n false) Forced)))
+
+-- so are all states
 pub record AreBuilt (lines : List Line) (origins : List Origin) (rows : Told) (ranks : List Rank) (states : List State) : Type 0 where
-  pub each :
-      (n : ℕ) (line : Line) (alone : List Reason) → slice_get lines n ≡ Some line →
-      slice_index_or rows.reasons n [] ≡ alone ++ when (slice_index_or rows.forced n false) Forced →
-      slice_get states n
-      ≡ Some
-      (state_by (slice_index_or rows.running n None) (slice_index_or ranks n AtOpen)
-      (alone ++ (map Upstream (upstream_paths ranks origins line.inputs) ++ when (slice_index_or rows.forced n false) Forced)))
+  pub each : (n : ℕ) (line : Line) → slice_get lines n ≡ Some line → IsBuiltAt origins rows ranks states n line
 
 -- The number is none of these: that of the job, of its readers and of those that watch it; and whether a child reads of it is as it was.
 pub record IsApart (job : ℕ) (readers watchers : List ℕ) (was used : List Bool) (n : ℕ) : Type 0 where
