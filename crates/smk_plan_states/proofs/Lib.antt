@@ -18,5 +18,6 @@ mod Building
 mod HeldByLinks
 mod Lacking
 mod Steps
+mod Kept
 mod LookUps
 pub mod Linked

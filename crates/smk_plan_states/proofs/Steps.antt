@@ -1,6 +1,6 @@
 -- The ranks of the first pass are told by themselves: so they stay through a step of one job, where each that is doubted comes out as it was.
 use Rattle.std.proofs.Common.{◌≡◌, ◌∙◌, ◌<◌, ◌≤◌, ◌+◌, ◌==◌, ℕ, zero, suc, length, take, drop, get_or, add-one, arith, Bool, true, false, not, ◌&&◌, ◌||◌, List, [], ◌∷◌, ◌++◌, map, filter, find, refl, sym, ap, subst, Option, Some, None, option_map, is_some, true≢false}
-use Rattle.std.specs.Prelude.{nat_eq, slice_index_or, if◌then◌else◌}
+use Rattle.std.specs.Prelude.{nat_eq, slice_index_or, if◌then◌else◌, IfOk, Result, Ok, Err}
 use Rattle.std.specs.List.{list_any, slice_get}
 use Rattle.std.specs.Option.{option_and_then}
 use Rattle.smk_world.specs.Trees.{Path, Each, among}
@@ -45,7 +45,7 @@ use Rattle.smk_plan_states.proofs.Flags.{split_at}
 
 -- ## Lists
 
-got_below : {A : Type 0} (xs : List A) (n : ℕ) (x : A) → slice_get xs n ≡ Some x → n < length xs
+pub got_below : {A : Type 0} (xs : List A) (n : ℕ) (x : A) → slice_get xs n ≡ Some x → n < length xs
 got_below [] n x e = absurd (none_some None x refl e)
 got_below (y ∷ xs) zero x e = omega arith
 got_below (y ∷ xs) (suc n) x e = let lt = got_below xs n x e in omega (arith, lt)
@@ -618,3 +618,8 @@ built_more lines origins rows ranks number line inputs force own begun rank stat
     (made alone (o ∙ h ∙ ap (λ x. alone ++ when x Forced) (sym f))
     ∙ (λ i. state_by (b i) (r i) (alone ++ (map Upstream (upstream_paths ranks origins (ins i)) ++ when (f i) Forced)))))
     (λ n l lt e alone h. ap (λ (xs : List State). slice_get xs n) n_is ∙ front_alike found (state ∷ []) n (omega (arith, lt, long)) ∙ so_far n l lt e alone h)
+
+-- what is so of an answer leads to another
+pub where_ok : {T E : Type 0} {P Q : T → Type 0} (r : Result T E) → ((x : T) → P x → Q x) → IfOk r P → IfOk r Q
+where_ok (Ok x) leads fact = leads x fact
+where_ok (Err e) leads fact = tt

@@ -16,6 +16,7 @@ pub mod Ranks
 pub mod Spots
 pub mod Ranking
 pub mod Stays
+pub mod Standing
 pub mod Moment
 pub mod Ways
 pub mod Waits

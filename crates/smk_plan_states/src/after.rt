@@ -102,8 +102,8 @@ fn are_told(
     true
 }
 
-// What is doubted after a step of the job: itself, its readers, those that watch it, and each of which a child reads that didn't, or no longer.
-fn doubts_of(
+/// What is doubted after a step of the job: itself, its readers, those that watch it, and each of which a child reads that didn't, or no longer.
+pub(crate) fn doubts_of(
     alloc: Global,
     count: usize,
     job: usize,
@@ -174,8 +174,8 @@ fn state_after(
     )
 }
 
-// The states after the step, by these ranks: those that are doubted made anew, the others as they were.
-fn states_after(
+/// The states after the step, by these ranks: those that are doubted made anew, the others as they were.
+pub(crate) fn states_after(
     alloc: Global,
     lines: &[Line],
     origins: &[Origin],
@@ -198,8 +198,8 @@ fn states_after(
     Ok(found)
 }
 
-// The ranks of the first pass after the step, where none changes but maybe that of the job.
-fn ranks_after(
+/// The ranks of the first pass after the step, where none changes but maybe that of the job.
+pub(crate) fn ranks_after(
     alloc: Global,
     lines: &[Line],
     origins: &[Origin],
@@ -220,12 +220,4 @@ fn ranks_after(
         return Ok(Some(ranks));
     }
     Ok(None)
-}
-
-/// Tiny.
-#[tactic(auto, using(crate::proofs::Steps::first_more, crate::proofs::Steps::first_by_all, crate::proofs::Steps::served_earlier, crate::proofs::Steps::ranks_stay, crate::proofs::Steps::states_stay, crate::proofs::Steps::states_are, crate::proofs::Steps::ranks_are, crate::proofs::Steps::states_told, crate::proofs::Steps::ranks_told))]
-pub(crate) fn tiny(x: usize) -> usize
-    ensures { result ≡ x }
-{
-    x
 }

@@ -11,15 +11,13 @@ ghost use Rattle.smk_plan_states.specs.Rows.{AreRowsAt};
 ghost use Rattle.smk_plan_states.specs.Tables.{IsTableAt, IsTableOf};
 
 use crate::awaits::{each_once, spot_paths, spots_in};
-use crate::downward::last_ranks;
 use crate::holding::any_held;
 use crate::in_use::used_in;
 use crate::lines::{Awaited, Line, Origin, Target};
 use crate::making::{Wants, lines_of, origins_of, targets_of};
 use crate::ready::{new_in, ready_in};
-use crate::reasons::states_of;
 use crate::rows::Rows;
-use crate::upward::first_ranks;
+use crate::standing::stand;
 use crate::ways::{Ways, read_in, sources_in};
 use smk_base::{List, OutOfMemory, PathText};
 use smk_chain::Jobs;
@@ -35,25 +33,6 @@ pub struct Table {
     origins: List<Origin>,
     targets: List<Target>,
     awaited: List<Awaited>,
-}
-
-// The states of the jobs, of which these flags tell whether a child reads what they made.
-fn solve(
-    alloc: Global,
-    lines: &[Line],
-    origins: &[Origin],
-    rows: &Rows<'_>,
-    used: &[bool],
-    before: &[State],
-) -> Result<List<State>, OutOfMemory>
-    ensures each { IfOk result (λ states. length states ≡ length lines.now) }
-    ensures states { IfOk result (λ found. (at : Judging) (jobs : JobsValue) (states : Items StateValue)
-        → IsMoment at jobs states lines.now origins.now rows.now used.now → found ≡ states) }
-{
-    let first = first_ranks(alloc, lines, origins, rows, used)?;
-    let ranks = last_ranks(alloc, lines, origins, rows, used, first)?;
-    let states = states_of(alloc, lines, origins, rows, ranks.as_slice(), before)?;
-    Ok(states)
 }
 
 impl Table {
@@ -118,8 +97,8 @@ impl Table {
         let lines = self.lines.as_slice();
         let origins = self.origins.as_slice();
         let used = used_in(alloc, lines, origins, rows.running)?;
-        let states = solve(alloc, lines, origins, rows, used.as_slice(), before)?;
-        Ok(states)
+        let standing = stand(alloc, lines, origins, rows, used, before)?;
+        Ok(standing.states)
     }
 
     /// For each target whether it is ready by these states: a job makes it that is Clean, and it is whole. `OutOfMemory` where there is no
