@@ -10,10 +10,15 @@ use Rattle.smk_plan_states.specs.declared.standing.After.{After}
 use Rattle.smk_plan_states.specs.declared.standing.Ranking.{Ranking}
 use Rattle.smk_plan_states.specs.declared.standing.Standing.{Standing}
 use Rattle.smk_plan_states.specs.Ranking.{is_lacking, is_read_by_child}
-use Rattle.smk_plan_states.specs.Stays.{Told, AreAfter, AreRowsBut, IsApart, IsStateAfter, IsUntouched, has_number, reads_of}
+use Rattle.smk_plan_states.specs.Stays.{Told, told_by, AreAfter, AreBuilt, AreRowsBut, IsApart, IsStateAfter, IsUntouched, has_number, reads_of}
+use Rattle.smk_chain.specs.declared.jobs.Jobs.{Jobs}
+use Rattle.smk_plan_states.specs.declared.rows.Rows.{Rows}
+use Rattle.smk_plan_states.specs.Judged.{Judging}
+use Rattle.smk_plan_states.specs.Moment.{IsMoment}
 use Rattle.smk_plan_states.specs.Standing.{HasGone, IsStanding}
+use Rattle.smk_plan_states.proofs.Lacking.{none_lacking}
 use Rattle.smk_laws_plan.proofs.CurrentLists.{clash_of}
-use Rattle.smk_plan_states.proofs.Steps.{got_below, ranks_stay, states_stay}
+use Rattle.smk_plan_states.proofs.Steps.{got_below, ranks_are, ranks_stay, states_are, states_stay}
 
 pub standing_stays :
     (lines : List Line) (origins : List Origin) (before now : Told) (s t : Standing) (doubts : List Bool) (job : ℕ) (readers watchers : List ℕ) →
@@ -74,3 +79,13 @@ stands_after lines origins now watchers job readers was used told doubts given r
     (subst (λ (xs : List State). IsStateAfter lines origins now t.ranking.first.items doubts xs gone.states n line) (sym same_states)
     (subst (λ (first : List Rank). IsStateAfter lines origins now first doubts states gone.states n line) (sym t_first)
     (subst (λ ds. IsStateAfter lines origins now gone.first.items ds states gone.states n line) given_is (went.anew n line e)))))
+
+-- the states by what is kept of their ranks are those of the table
+pub standing_states :
+    (at : Judging) (J : Jobs) (ss : List State) (lines : List Line) (origins : List Origin) (rows : Rows) (s : Standing) → IsMoment at J ss lines origins rows s.ranking.used.items →
+    IsStanding lines origins (told_by rows) s → s.ranking.lacking ≡ false → s.states ≡ ss
+standing_states at J ss lines origins rows s h k whole =
+    states_are at J ss lines origins rows s.ranking.used.items h s.states k.each_state
+    (subst (λ (first : List Rank). AreBuilt lines origins (told_by rows) first s.states)
+    (none_lacking at J ss lines origins rows s.ranking.used.items h s.ranking.first.items (k.whole whole) (ranks_are at J ss lines origins rows s.ranking.used.items h s.ranking.first.items k.each_rank k.ranks))
+    (k.states whole))

@@ -1,5 +1,5 @@
 -- The states of jobs, and what is kept of their ranks between two steps, by numbers alone.
-use Rattle.std.specs.Prelude.{◌≡◌, ◌<◌, ℕ, Bool, false, List, Some, zip, length, slice_index_or}
+use Rattle.std.specs.Prelude.{◌≡◌, ◌<◌, ℕ, Bool, false, List, Option, Some, None, zip, length, slice_index_or}
 use Rattle.std.specs.List.{list_any, slice_get}
 use Rattle.smk_trigger.specs.declared.reason.State.{State}
 use Rattle.smk_plan_states.specs.declared.ranks.Rank.{Rank}
@@ -7,8 +7,9 @@ use Rattle.smk_plan_states.specs.declared.lines.Line.{Line}
 use Rattle.smk_plan_states.specs.declared.lines.Origin.{Origin}
 use Rattle.smk_plan_states.specs.declared.standing.Standing.{Standing}
 use Rattle.smk_plan_states.specs.declared.standing.After.{After}
+use Rattle.smk_plan_states.specs.declared.standing.Last.{Last}
 use Rattle.smk_plan_states.specs.Ranking.{is_lacking, is_read_by_child}
-use Rattle.smk_plan_states.specs.Stays.{Told, AreAfter, AreFirst, AreBuilt, IsStateAfter}
+use Rattle.smk_plan_states.specs.Stays.{Told, AreAfter, AreFirst, AreBuilt, AreRowsBut, IsStateAfter}
 
 -- The ranks of the first pass are told by themselves, and it is told from which jobs the children of others read; where none that is Clean lacks an output, the
 -- states are those of these ranks.
@@ -28,3 +29,10 @@ pub record HasGone
   pub whole : list_any is_lacking (zip now.first.items rows.outputs) ≡ false
   pub each : length now.states ≡ length lines
   pub anew : (n : ℕ) (line : Line) → slice_get lines n ≡ Some line → IsStateAfter lines origins rows now.first.items doubts states now.states n line
+
+-- The states came by a step from those that the jobs had: what was kept of them was so, and all but the job's and its readers' rows are as they were.
+abbrev pub Follows : List Line → List Origin → Option Last → Told → Type 0
+Follows lines origins None now = Unit {0}
+Follows lines origins (Some l) now =
+    (before : Told) × (s : Standing) × (s.ranking ≡ l.ranking.now) × (s.states ≡ l.states.now) × IsStanding lines origins before s
+    × AreRowsBut origins l.job l.readers.now before now

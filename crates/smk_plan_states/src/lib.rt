@@ -28,5 +28,5 @@ pub use laws::linked_jobs_serve;
 pub use lines::{Awaited, Gathered, Input, Line, Origin, Output, Target, Temp};
 pub use reasons::state_again;
 pub use rows::Rows;
-pub use standing::{Ranking, Standing};
+pub use standing::{Last, Ranking, Standing};
 pub use table::Table;

@@ -108,3 +108,13 @@ pub(crate) fn watchers_of(
     }
     Ok(found)
 }
+
+/// Those that watch the job of the number.
+pub(crate) fn watchers_at(watchers: &[List<usize>], number: usize) -> &[usize]
+    ensures { result.now ≡ slice_index_or watchers.now number [] }
+{
+    match watchers.get(number) {
+        None => &[],
+        Some(row) => row.as_slice(),
+    }
+}
