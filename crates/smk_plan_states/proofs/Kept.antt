@@ -1,24 +1,33 @@
 -- What is kept of ranks and states stays so through a step of one job.
-use Rattle.std.proofs.Common.{◌≡◌, ◌∙◌, ◌<◌, ℕ, length, Bool, true, false, List, refl, sym, ap, subst, Some}
-use Rattle.std.specs.Prelude.{slice_index_or, zip}
+use Rattle.std.proofs.Common.{◌≡◌, ◌∙◌, ◌<◌, ℕ, length, Bool, true, false, List, [], map, refl, sym, ap, subst, Option, Some, Global}
+use Rattle.std.specs.Prelude.{slice_index_or, zip, IfSome, Vec}
 use Rattle.std.specs.List.{list_any, slice_get}
 use Rattle.smk_trigger.specs.declared.reason.State.{State}
 use Rattle.smk_plan_states.specs.declared.lines.Line.{Line}
 use Rattle.smk_plan_states.specs.declared.lines.Origin.{Origin}
 use Rattle.smk_plan_states.specs.declared.ranks.Rank.{Rank}
 use Rattle.smk_plan_states.specs.declared.standing.After.{After}
+use Rattle.smk_plan_states.specs.declared.standing.Last.{Last}
 use Rattle.smk_plan_states.specs.declared.standing.Ranking.{Ranking}
 use Rattle.smk_plan_states.specs.declared.standing.Standing.{Standing}
 use Rattle.smk_plan_states.specs.Ranking.{is_lacking, is_read_by_child}
-use Rattle.smk_plan_states.specs.Stays.{Told, told_by, AreAfter, AreBuilt, AreRowsBut, IsApart, IsStateAfter, IsUntouched, has_number, reads_of}
+use Rattle.smk_plan_states.specs.Stays.{Told, told_by, AreEarlier, AreAfter, AreBuilt, AreRowsBut, IsApart, IsStateAfter, IsUntouched, has_number, reads_of}
 use Rattle.smk_chain.specs.declared.jobs.Jobs.{Jobs}
 use Rattle.smk_plan_states.specs.declared.rows.Rows.{Rows}
-use Rattle.smk_plan_states.specs.Judged.{Judging}
+use Rattle.smk_world.specs.Trees.{Path}
+use Rattle.smk_plan_states.specs.declared.table.Table.{Table}
+use Rattle.smk_plan_states.specs.Judged.{Judging, AreStates}
+use Rattle.smk_plan_states.specs.Lines.{origin_of}
+use Rattle.smk_plan_states.specs.Rows.{AreRowsAt}
+use Rattle.smk_plan_states.specs.Served.{AreServed}
+use Rattle.smk_plan_states.specs.Tables.{IsTableAt, IsTableOf}
+use Rattle.smk_plan_states.proofs.Solved.{solved}
+use Rattle.smk_plan_states.proofs.UsedBy.{used_are}
 use Rattle.smk_plan_states.specs.Moment.{IsMoment}
-use Rattle.smk_plan_states.specs.Standing.{HasGone, IsStanding}
+use Rattle.smk_plan_states.specs.Standing.{Follows, HasGone, IsStanding}
 use Rattle.smk_plan_states.proofs.Lacking.{none_lacking}
 use Rattle.smk_laws_plan.proofs.CurrentLists.{clash_of}
-use Rattle.smk_plan_states.proofs.Steps.{got_below, ranks_are, ranks_stay, states_are, states_stay}
+use Rattle.smk_plan_states.proofs.Steps.{got_below, ranks_are, ranks_stay, served_earlier, states_are, states_stay}
 
 pub standing_stays :
     (lines : List Line) (origins : List Origin) (before now : Told) (s t : Standing) (doubts : List Bool) (job : ℕ) (readers watchers : List ℕ) →
@@ -89,3 +98,95 @@ standing_states at J ss lines origins rows s h k whole =
     (subst (λ (first : List Rank). AreBuilt lines origins (told_by rows) first s.states)
     (none_lacking at J ss lines origins rows s.ranking.used.items h s.ranking.first.items (k.whole whole) (ranks_are at J ss lines origins rows s.ranking.used.items h s.ranking.first.items k.each_rank k.ranks))
     (k.states whole))
+
+-- ## By the table
+
+module _
+    (at : Judging) (J : Jobs) (table : Table) (lines : List Line) (origins : List Origin) (rows : Rows) (used : List Bool) (told : IsTableAt at J table) (right : AreRowsAt at J rows)
+    (lines_are : lines ≡ table.lines) (origins_are : origins ≡ table.origins) (each : length used ≡ length lines)
+    (reads : (n : ℕ) → n < length lines → slice_index_or used n false ≡ is_read_by_child lines origins rows.running.now n) where
+  -- there is a moment with these rows
+  pub moment : (ss : List State) × AreStates at J ss × IsMoment at J ss lines origins rows used
+  moment =
+      let s = solved at.image J at.settings.targets told.served at.settings at.progress in
+      let ls = lines_are ∙ told.told.lines in
+      let os = origins_are ∙ told.told.origins in (
+        s.0,
+        s.1,
+        record {
+          served = told.served;
+          solved = s.1;
+          each_line = ls;
+          each_origin = os;
+          told = right;
+          read = used_are at J at.settings.targets told.served lines origins rows.running.now used ls os right.running each reads;
+        },
+      )
+
+  pub anew_states :
+      (states : List State) → ((at : Judging) (jobs : Jobs) (ss : List State) → IsMoment at jobs ss lines origins rows used → states ≡ ss) → AreStates at J states
+  anew_states states is = let m = moment in subst (λ (xs : List State). AreStates at J xs) (sym (is at J m.0 m.2)) m.1
+
+  -- where none that is Clean lacks an output
+  pub kept_states :
+      (s : Standing) → s.ranking.used.items ≡ used → IsStanding lines origins (told_by rows) s → s.ranking.lacking ≡ false → AreStates at J s.states
+  kept_states s same stands whole =
+      let m = moment in
+      subst (λ (xs : List State). AreStates at J xs)
+      (sym (standing_states at J m.0 lines origins rows s (subst (λ us. IsMoment at J m.0 lines origins rows us) (sym same) m.2) stands whole)) m.1
+
+pub earlier_lines : (J : Jobs) (asked : List Path) (table : Table) → IsTableOf J asked table → AreServed J asked → AreEarlier table.lines table.origins
+earlier_lines J asked table told served =
+    subst (λ (os : List Origin). AreEarlier table.lines os) (sym told.origins)
+    (subst (λ (ls : List Line). AreEarlier ls (map (origin_of J.jobs) J.makers)) (sym told.lines) (served_earlier J asked served))
+
+pub anew_standing :
+    (J : Jobs) (asked : List Path) (table : Table) (lines : List Line) (origins : List Origin) (rows : Rows) (used : List Bool) (s : Standing) → IsTableOf J asked table → AreServed J asked →
+    lines ≡ table.lines → origins ≡ table.origins → ((n : ℕ) → n < length lines → slice_index_or used n false ≡ is_read_by_child lines origins rows.running.now n) →
+    (AreEarlier lines origins → ((n : ℕ) → n < length lines → slice_index_or used n false ≡ is_read_by_child lines origins rows.running.now n) → IsStanding lines origins (told_by rows) s) →
+    IsStanding table.lines table.origins (told_by rows) s
+anew_standing J asked table lines origins rows used s told served ls os reads stands =
+    subst (λ (xs : List Origin). IsStanding table.lines xs (told_by rows) s) os
+    (subst (λ (xs : List Line). IsStanding xs origins (told_by rows) s) ls
+    (stands
+    (subst (λ (xs : List Origin). AreEarlier lines xs) (sym os) (subst (λ (xs : List Line). AreEarlier xs table.origins) (sym ls) (earlier_lines J asked table told served)))
+    reads))
+
+-- what follows stands by the table
+pub follow_standing :
+    (J : Jobs) (asked : List Path) (table : Table) (lines : List Line) (origins : List Origin) (rows : Rows) (used : List Bool) (last : Last) (all : List (List ℕ)) (watchers : List ℕ) (t : Standing) →
+    IsTableOf J asked table → lines ≡ table.lines → origins ≡ table.origins → all ≡ table.watchers.items → watchers ≡ slice_index_or all last.job [] → last.job < length lines →
+    ((n : ℕ) → n < length lines → slice_index_or used n false ≡ is_read_by_child lines origins rows.running.now n) →
+    ((before : Told) (s : Standing) → s.ranking ≡ last.ranking.now → s.states ≡ last.states.now → IsStanding lines origins before s → AreRowsBut origins last.job last.readers.now before (told_by rows) →
+    ((n : ℕ) (line : Line) → slice_get lines n ≡ Some line → reads_of origins last.job line ≡ true → has_number n watchers ≡ true) →
+    ((n : ℕ) → n < length lines → slice_index_or used n false ≡ is_read_by_child lines origins rows.running.now n) → IsStanding lines origins (told_by rows) t) →
+    Follows table.lines table.origins (Some last) (told_by rows) → IsStanding lines origins (told_by rows) t
+follow_standing J asked table lines origins rows used last all watchers t told ls os all_is row within reads stands (before, s, same, states, stood, but) =
+    stands before s same states
+    (subst (λ (xs : List Line). IsStanding xs origins before s) (sym ls) (subst (λ (xs : List Origin). IsStanding table.lines xs before s) (sym os) stood))
+    (subst (λ (xs : List Origin). AreRowsBut xs last.job last.readers.now before (told_by rows)) (sym os) but)
+    (λ n line e r.
+    ap (has_number n) (row ∙ ap (λ (xs : List (List ℕ)). slice_index_or xs last.job []) all_is)
+    ∙ told.watched.each n line last.job (subst (λ (xs : List Line). last.job < length xs) ls within) (ap (λ (xs : List Line). slice_get xs n) (sym ls) ∙ e)
+    (ap (λ (xs : List Origin). reads_of xs last.job line) (sym os) ∙ r))
+    reads
+
+-- ## What an answer gives, where there is one
+
+abbrev pub IsKeptBy : List Line → Vec Bool Global → Last → Standing → Type 0
+IsKeptBy lines used last now = (now.ranking.used ≡ used) × (now.ranking.lacking ≡ false) × (length now.states ≡ length lines) × (last.job < length lines)
+
+pub some_kept :
+    (found : Option Standing) (now : Standing) (lines : List Line) (used : Vec Bool Global) (last : Last) → found ≡ Some now → IfSome found (IsKeptBy lines used last) → IsKeptBy lines used last now
+some_kept found now lines used last is kept = subst (λ (o : Option Standing). IfSome o (IsKeptBy lines used last)) is kept
+
+abbrev pub IsLedTo : List Line → List Origin → Rows → Vec Bool Global → List ℕ → Last → Standing → Type 0
+IsLedTo lines origins rows used watchers last now =
+    (before : Told) (s : Standing) → s.ranking ≡ last.ranking.now → s.states ≡ last.states.now → IsStanding lines origins before s → AreRowsBut origins last.job last.readers.now before (told_by rows) →
+    ((n : ℕ) (line : Line) → slice_get lines n ≡ Some line → reads_of origins last.job line ≡ true → has_number n watchers ≡ true) →
+    ((n : ℕ) → n < length lines → slice_index_or used.items n false ≡ is_read_by_child lines origins rows.running.now n) → IsStanding lines origins (told_by rows) now
+
+pub some_stands :
+    (found : Option Standing) (now : Standing) (lines : List Line) (origins : List Origin) (rows : Rows) (used : Vec Bool Global) (watchers : List ℕ) (last : Last) → found ≡ Some now →
+    IfSome found (IsLedTo lines origins rows used watchers last) → IsLedTo lines origins rows used watchers last now
+some_stands found now lines origins rows used watchers last is stands = subst (λ (o : Option Standing). IfSome o (IsLedTo lines origins rows used watchers last)) is stands

@@ -131,6 +131,7 @@ pub record IsApart (job : ℕ) (readers watchers : List ℕ) (was used : List Bo
 -- The ranks have changed at most at the job, and each job that is doubted has the one that it has by them.
 pub record AreAfter
     (lines : List Line) (origins : List Origin) (rows : Told) (used doubts : List Bool) (job : ℕ) (before ranks : List Rank) : Type 0 where
+  pub within : job < length lines
   pub each : length ranks ≡ length before
   pub others : (m : ℕ) → (m == job) ≡ false → slice_get ranks m ≡ slice_get before m
   pub told :

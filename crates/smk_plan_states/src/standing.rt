@@ -171,7 +171,8 @@ pub(crate) fn stand_after(
     watchers: &[usize],
     last: Last<'_>,
 ) -> Result<Option<Standing>, OutOfMemory>
-    ensures { IfOk result (λ found. IfSome found (λ now. (before : Told) (s : StandingValue) → s.ranking ≡ last.entry.ranking.now → s.states ≡ last.entry.states.now
+    ensures kept { IfOk result (λ found. IfSome found (λ now. (now.ranking.used ≡ used) × (now.ranking.lacking ≡ false) × (length now.states ≡ length lines.now) × (last.entry.job < length lines.now))) }
+    ensures standing { IfOk result (λ found. IfSome found (λ now. (before : Told) (s : StandingValue) → s.ranking ≡ last.entry.ranking.now → s.states ≡ last.entry.states.now
         → IsStanding lines.now origins.now before s → AreRowsBut origins.now last.entry.job last.entry.readers.now before (told_by rows.now)
         → ((n : ℕ) (line : LineValue) → slice_get lines.now n ≡ Some line → reads_of origins.now last.entry.job line ≡ true → has_number n watchers.now ≡ true)
         → ((n : ℕ) → n < length lines.now → slice_index_or used.items n false ≡ is_read_by_child lines.now origins.now rows.now.running.now n)
