@@ -23,6 +23,7 @@ gone_past test outputs flags i past e =
     ∙ ap (λ (fs : List Bool). any_gone test (drop i outputs) fs) (drop_all i flags (ltb-false i (length flags) (sym past)))
     ∙ ap (list_any (is_gone_with test)) (zip_none (drop i outputs)))
 
+-- so it is of flags that are lent
 pub lent_past :
     {A B : Type 0} (test : A × B → Bool) (xs : List A) (refs : List (Bor B)) (i : ℕ) → false ≡ nat_lt i (length refs) →
     list_any test (zip xs (lent refs)) ≡ list_any test (zip (drop i xs) (lent (drop i refs))) → false ≡ list_any test (zip xs (lent refs))
@@ -30,26 +31,6 @@ lent_past {A} {B} test xs refs i past e =
     sym
     (e
     ∙ ap (λ (rs : List (Bor B)). list_any test (zip (drop i xs) (lent rs))) (drop_all i refs (ltb-false i (length refs) (sym past)))
-    ∙ ap (list_any test) (zip_none (drop i xs)))
-
--- the same of three lists, where the second or the third one ends
-pub used_past :
-    {A B C : Type 0} (test : A × (B × C) → Bool) (xs : List A) (ys : List B) (refs : List (Bor C)) (i : ℕ) → false ≡ nat_lt i (length ys) →
-    list_any test (zip xs (zip ys (lent refs))) ≡ list_any test (zip (drop i xs) (zip (drop i ys) (lent (drop i refs)))) → false ≡ list_any test (zip xs (zip ys (lent refs)))
-used_past {A} {B} {C} test xs ys refs i past e =
-    sym
-    (e
-    ∙ ap (λ (bs : List B). list_any test (zip (drop i xs) (zip bs (lent (drop i refs))))) (drop_all i ys (ltb-false i (length ys) (sym past)))
-    ∙ ap (list_any test) (zip_none (drop i xs)))
-
-pub flags_past :
-    {A B C : Type 0} (test : A × (B × C) → Bool) (xs : List A) (ys : List B) (refs : List (Bor C)) (i : ℕ) → false ≡ nat_lt i (length refs) →
-    list_any test (zip xs (zip ys (lent refs))) ≡ list_any test (zip (drop i xs) (zip (drop i ys) (lent (drop i refs)))) → false ≡ list_any test (zip xs (zip ys (lent refs)))
-flags_past {A} {B} {C} test xs ys refs i past e =
-    sym
-    (e
-    ∙ ap (λ (rs : List (Bor C)). list_any test (zip (drop i xs) (zip (drop i ys) (lent rs)))) (drop_all i refs (ltb-false i (length refs) (sym past)))
-    ∙ ap (λ zs. list_any test (zip (drop i xs) zs)) (zip_none (drop i ys))
     ∙ ap (list_any test) (zip_none (drop i xs)))
 
 -- the element in a place, with what stands before it and after it
