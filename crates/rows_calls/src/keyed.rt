@@ -3,12 +3,13 @@
 ghost use Rattle.std.specs.Prelude.{◌≡◌, []};
 ghost use Rattle.smk_world_mem.specs.Work.{running_in};
 
+use crate::trial::{empty, numbers};
 use rows_lines::Trouble;
-use smk_base::{List, OutOfMemory, PathText, Place, one};
+use smk_base::{List, PathText, Place};
 use smk_keep_forget::{ForgetFault, forget_paths};
 use smk_keep_lock::{Lock, UnlockFault, unlock_folder};
 use smk_world::{Failed, Files, Stat};
-use smk_world_mem::{MemSink, MemWork, Setup};
+use smk_world_mem::{MemSink, MemWork};
 use std::alloc::{AllocError, Global};
 
 /// A workspace, and the sink of a call in it.
@@ -16,27 +17,6 @@ use std::alloc::{AllocError, Global};
 pub struct Trial {
     pub work: MemWork,
     pub out: MemSink,
-}
-
-// The number, where there is one.
-fn numbers(alloc: Global, number: Option<u64>) -> Result<List<u64>, OutOfMemory> {
-    match number {
-        Some(number) => one(alloc, number),
-        None => Ok(List::new(alloc)),
-    }
-}
-
-// An empty workspace whose calls with these numbers fail.
-fn empty(alloc: Global, failing: List<u64>) -> MemWork {
-    MemWork::new(
-        alloc,
-        Setup {
-            failing,
-            stop_after: None,
-            order: List::new(alloc),
-            killed: List::new(alloc),
-        },
-    )
 }
 
 /// A workspace without a file, and a sink, where the call of the device and the put with these numbers fail.

@@ -18,16 +18,16 @@ pub struct Trial {
     pub err: MemSink,
 }
 
-// The number, where there is one.
-fn numbers(alloc: Global, number: Option<u64>) -> Result<List<u64>, OutOfMemory> {
+/// The number, where there is one.
+pub fn numbers(alloc: Global, number: Option<u64>) -> Result<List<u64>, OutOfMemory> {
     match number {
         Some(number) => one(alloc, number),
         None => Ok(List::new(alloc)),
     }
 }
 
-// An empty workspace whose call with this number fails.
-fn empty(alloc: Global, failing: List<u64>) -> MemWork {
+/// An empty workspace whose calls with these numbers fail.
+pub fn empty(alloc: Global, failing: List<u64>) -> MemWork {
     MemWork::new(
         alloc,
         Setup {

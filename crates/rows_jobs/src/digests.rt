@@ -1,9 +1,10 @@
 //! SHA-256 of contents, and of the files of a workspace in memory.
 
+use crate::jobs::workspace;
 use rows_lines::{Trouble, push_case};
 use smk_base::{Bytes, List, OutOfMemory, PathText, Sum, one};
 use smk_digest::{SumFault, digest_all, sums};
-use smk_world_mem::{MemWork, Setup};
+use smk_world_mem::MemWork;
 use std::alloc::{AllocError, Global};
 use std::str;
 use std::thread::Threads;
@@ -56,19 +57,6 @@ fn told_of_vectors<Rt: Threads + Sync>(rt: &Rt, alloc: Global) -> Result<String,
     Ok(text)
 }
 
-// A workspace in which the calls with these numbers fail.
-fn empty(alloc: Global, failing: List<u64>) -> MemWork {
-    MemWork::new(
-        alloc,
-        Setup {
-            failing,
-            stop_after: None,
-            order: List::new(alloc),
-            killed: List::new(alloc),
-        },
-    )
-}
-
 // Places a file of so many letters.
 fn place(alloc: Global, work: &mut MemWork, path: &str, len: usize) -> Result<(), Trouble> {
     let bytes = letters(alloc, len)?;
@@ -77,7 +65,7 @@ fn place(alloc: Global, work: &mut MemWork, path: &str, len: usize) -> Result<()
 
 // A hundred files, each of so many bytes as its number tells, and two at the limit.
 fn filled(alloc: Global, failing: List<u64>) -> Result<MemWork, Trouble> {
-    let mut work = empty(alloc, failing);
+    let mut work = workspace(alloc, failing);
     for number in 0..100usize {
         let path = format!(in alloc; "f{number}")?;
         place(alloc, &mut work, path.as_str(), number)?;
