@@ -20,9 +20,13 @@ use Rattle.smk_plan.specs.declared.plan.Plan.{Plan as Told}
 use Rattle.smk_plan.specs.declared.seen.Sight.{Sight}
 use Rattle.smk_plan.specs.States.{by_force, job_path, makes, test_some}
 use Rattle.smk_plan_facts.specs.Facts.{told_sources}
-use Rattle.smk_plan_facts.specs.Telling.{facts_in, forced_by, outputs_in}
+use Rattle.smk_plan_facts.specs.Telling.{facts_in, forced_by, is_made_of, outputs_in}
+use Rattle.smk_plan_states.specs.declared.standing.Last.{Last}
+use Rattle.smk_plan_states.specs.declared.standing.Ranking.{Ranking}
 use Rattle.smk_plan_states.specs.Rows.{lent}
 use Rattle.smk_plan_states.specs.Served.{AreServed}
+use Rattle.smk_plan_states.specs.Standing.{StandsBy}
+use Rattle.smk_plan_states.specs.Stays.{AreRowsBut, Told as TellsRows}
 use Rattle.smk_plan_table.specs.Parts.{IsSuspectOf}
 use Rattle.smk_plan_live.specs.declared.base.Base.{Base}
 use Rattle.smk_plan_live.specs.declared.lending.Lent.{Lent}
@@ -37,12 +41,13 @@ use Rattle.smk_plan_live.specs.Now.{known_now, seen_now}
 use Rattle.smk_plan_live.specs.Phases.{begun_in, has_begun}
 use Rattle.smk_plan_live.specs.Same.{paths_in, AreSameBut, put_each, all_news, numbered_facts, numbered_force, numbered_reasons, users_from}
 use Rattle.smk_plan_live.specs.Carried.{has_name, turned, filled, advanced, sighted, sight_but, spent, spent_at}
-use Rattle.smk_plan_live.specs.Lives.{AreLentNow, AreMakersWhole, AreNamed, IsLive, IsNow, facts_now}
-use Rattle.smk_plan_live.specs.Steps.{IsAhead, IsChanged, IsChangeOf, IsLoss, moved, or_no_numbers, readers_at}
+use Rattle.smk_plan_live.specs.Lives.{AreLentNow, AreMakersWhole, AreNamed, FollowsLent, IsLive, IsNow, facts_now, told_kept, told_lent, told_live}
+use Rattle.smk_plan_live.specs.Steps.{IsAhead, IsChanged, IsChangeOf, IsLast, IsLoss, StandsNext, moved, or_no_numbers, readers_at, told_next}
 use Rattle.smk_plan_live.proofs.Changed.{set_back, set_here, get_other, filled_but, sighted_but, turned_sound, filled_sound, sighted_sound, closed_begun, begun_here, begun_other, named_in}
 use Rattle.smk_plan_live.proofs.Restoring.{at_same, one_name}
 use Rattle.smk_plan_live.proofs.Same.{doubted_same, is_other}
 use Rattle.smk_plan_live.proofs.Settled.{judged, news_are, reasons_are, outputs_are, makers_are, doubted_are}
+use Rattle.smk_plan_live.proofs.Stepping.{flags_stay, force_stays, reasons_stay}
 pub use Rattle.smk_plan_live.proofs.Putting.{mapped_at, put_map}
 
 -- ## Numbers of jobs
@@ -121,6 +126,7 @@ begun_changed p live n state found is has waiting row sights =
           (false_unless (bytes_eq (job_path k) (job_path found))
           (λ e. other (one_name b live.sound served.apart n found (job_path found) is (named_in (out_paths found.recipe) has) m k here e)))
           Running);
+      running = λ m other. get_other b.began n m (Some state) (eqb-false m n other);
     }
 
 pub closed_changed :
@@ -137,6 +143,7 @@ closed_changed p live n runs row sights =
           ap (λ ran. forced_by p.settings ran j) same
           ∙ not_forced p.settings j (begun_in b.jobs.jobs b.phases) (begun_here b.jobs.jobs b.phases n j Running at runs refl);
       others = λ served m k other here. ap (λ ran. forced_by p.settings ran k) same;
+      running = λ m other. get_other b.began n m None (eqb-false m n other);
     }
 
 pub sighted_changed :
@@ -155,6 +162,7 @@ sighted_changed p live n facts has flag is sights =
           (sym (mapped_at fact p.base.jobs.jobs n j at) ∙ sym (ap (λ (fs : List JobFacts). slice_get fs n) (live.facts served)) ∙ has) in
           ap (λ (f : JobFacts). f.forced) same ∙ sym is;
       others = λ served m k other here. refl;
+      running = λ m other. refl;
     }
 
 -- what is lost with an output is what changes as it is removed
@@ -274,16 +282,58 @@ module _ (p : LivePlan) (n : ℕ) (forced : Bool) (ahead : IsAhead p n forced) (
         doubted = doubted_then served;
       }
 
+  -- of all other jobs what is told now is what the plan told, but for the reasons of the readers
+  rows_but : AreRowsBut p.table.origins n (readers_at p.readers.items n) (told_live p ahead.began) (told_next p change)
+  rows_but =
+      record {
+        outputs = λ m other. ap (λ k. slice_get (slice_set p.flags.outputs k change.outputs) m) is.number ∙ get_other p.flags.outputs n m change.outputs (eqb-false m n other);
+        makers = λ m o at other.
+            ap (λ flags. slice_index_or flags m false) is.makers
+            ∙ flags_stay (is_made_of (known_now p.base) (seen_now p.base) is.job) n jobs p.base.jobs.makers p.flags.makers m o
+            (ap (λ os. slice_get os m) (sym ahead.live.table.origins) ∙ at) other;
+        reasons = λ m other free.
+            ap (λ news. slice_get (put_each p.reasons.items (map numbered_reasons news)) m) is.news
+            ∙ reasons_stay (known_now p.base) (seen_now p.base) (contains_text p.base.sources) forced n is.job p.facts.items
+            (readers_at p.readers.items n) p.reasons.items m other free;
+        forced = λ m other.
+            ap (λ news. slice_get (put_each (map (λ (f : JobFacts). f.forced) p.facts.items) (map numbered_force news)) m) is.news
+            ∙ force_stays (known_now p.base) (seen_now p.base) (contains_text p.base.sources) forced n is.job p.facts.items
+            (readers_at p.readers.items n) m other;
+        running = ahead.changed.running;
+      }
+
+  -- what is lent with what is new is told now
+  pub lent_is :
+      (rows : Lent) → lent rows.outputs.items ≡ slice_set p.flags.outputs change.number change.outputs →
+      lent rows.reasons.items ≡ put_each p.reasons.items (map numbered_reasons change.news.items) →
+      rows.forced.items ≡ put_each (map (λ (f : JobFacts). f.forced) p.facts.items) (map numbered_force change.news.items) →
+      told_lent rows change.makers p.base.began ≡ told_next p change
+  lent_is rows outputs reasons force = λ i.
+      record { outputs = outputs i; makers = change.makers; reasons = reasons i; forced = force i; running = p.base.began }
+
+  -- what the plan keeps stood before the step
+  pub follows_then :
+      (l : Last) → IsLast p n l → (rows : Lent) → told_lent rows change.makers p.base.began ≡ told_next p change →
+      FollowsLent p.settings p.base p.table rows change.makers (Some l)
+  follows_then l kept rows told_is served = (
+    told_live p ahead.began,
+    record { states = p.plan.states; ranking = p.ranking },
+    sym kept.ranking,
+    sym kept.states,
+    ahead.live.standing served,
+    coe 1 0 (i. AreRowsBut p.table.origins (kept.job i) (kept.readers i) (told_live p ahead.began) (told_is i)) rows_but,
+  )
+
   -- the plan with what is new
   pub installed :
-      (new : LivePlan) (plan : Told) (held : Bool) → length plan.states ≡ length jobs → length plan.current ≡ length p.settings.targets →
-      IsNow p.settings p.base plan held → new.base ≡ p.base → new.settings ≡ p.settings →
+      (new : LivePlan) (plan : Told) (ranking : Ranking) (held : Bool) → length plan.states ≡ length jobs → length plan.current ≡ length p.settings.targets →
+      IsNow p.settings p.base plan held → (AreServed p.base.jobs p.settings.targets → StandsNext p change plan ranking) → new.base ≡ p.base → new.settings ≡ p.settings →
       new.facts.items ≡ put_each p.facts.items (map numbered_facts change.news.items) →
       new.reasons.items ≡ put_each p.reasons.items (map numbered_reasons change.news.items) →
-      new.plan ≡ plan → new.held ≡ held →
+      new.plan ≡ plan → new.ranking ≡ ranking → new.held ≡ held →
       new.flags.outputs ≡ slice_set p.flags.outputs change.number change.outputs → new.flags.makers ≡ change.makers →
       new.flags.suspects ≡ change.suspects.items → new.table ≡ p.table → new.readers ≡ p.readers → new.commanded ≡ p.commanded → IsLive new
-  installed new plan held each targets now base settings facts reasons told back outputs makers suspects table readers commanded =
+  installed new plan ranking held each targets now stands base settings facts reasons told ranked back outputs makers suspects table readers commanded =
       coe 1 0
       (i.
       IsLive
@@ -291,6 +341,7 @@ module _ (p : LivePlan) (n : ℕ) (forced : Bool) (ahead : IsAhead p n forced) (
         base = base i;
         settings = settings i;
         plan = told i;
+        ranking = ranked i;
         held = back i;
         table = table i;
         readers = readers i;
@@ -308,9 +359,29 @@ module _ (p : LivePlan) (n : ℕ) (forced : Bool) (ahead : IsAhead p n forced) (
         table = ahead.live.table;
         flags = λ served. record { outputs = outputs_then served; makers = makers_then served; suspects = doubted_then served };
         readers = ahead.live.readers;
+        standing = λ served.
+            subst (λ (rows : TellsRows). StandsBy p.table rows (record { states = plan.states; ranking = ranking })) told_is (stands served);
         named = ahead.changed.named;
         commands = ahead.live.commands;
       })
     where
+      force : put_each (map (λ (f : JobFacts). f.forced) p.facts.items) (map numbered_force change.news.items) ≡ map (λ (f : JobFacts). f.forced) new.facts.items
+      force =
+          sym (put_map (λ (f : JobFacts). f.forced) (λ (r : Renewed). r.number) (λ (r : Renewed). r.facts) change.news.items p.facts.items)
+          ∙ sym (ap (map (λ (f : JobFacts). f.forced)) facts)
+
+      told_is :
+          told_next p change
+          ≡ told_kept (record { outputs = slice_set p.flags.outputs n change.outputs; makers = change.makers; suspects = change.suspects.items }) new.reasons.items
+          new.facts.items p.base.began
+      told_is = λ i.
+          record {
+            outputs = slice_set p.flags.outputs (is.number i) change.outputs;
+            makers = change.makers;
+            reasons = sym reasons i;
+            forced = force i;
+            running = p.base.began;
+          }
+
       its : new.flags.outputs ≡ slice_set p.flags.outputs n change.outputs
       its = outputs ∙ ap (λ m. slice_set p.flags.outputs m change.outputs) is.number

@@ -1,10 +1,11 @@
 -- What the jobs are judged by at any moment.
-use Rattle.std.proofs.Common.{◌≡◌, Bool, List, [], ◌∷◌, map, refl, sym, ap, ap₂, ◌∙◌}
+use Rattle.std.proofs.Common.{◌≡◌, Bool, List, [], ◌∷◌, map, Option, refl, sym, ap, ap₂, ◌∙◌}
 use Rattle.std.specs.List.{AllZip}
 use Rattle.smk_world.specs.Trees.{Each}
 use Rattle.smk_flow.specs.declared.job.Job.{Job}
 use Rattle.smk_store.specs.Images.{Image}
 use Rattle.smk_chain.specs.declared.jobs.Maker.{Maker}
+use Rattle.smk_trigger.specs.declared.reason.State.{State}
 use Rattle.smk_pick.specs.declared.settings.Settings.{Settings}
 use Rattle.smk_plan.specs.declared.fault.PlanFault.{PlanFault}
 use Rattle.smk_plan.specs.declared.plan.Plan.{Plan as Told}
@@ -16,13 +17,14 @@ use Rattle.smk_plan_facts.specs.Telling.{directories_of, is_told_whole, wholes_i
 use Rattle.smk_plan_states.specs.declared.rows.Rows.{Rows}
 use Rattle.smk_plan_states.specs.Judged.{with_states}
 use Rattle.smk_plan_states.specs.Rows.{lent}
+use Rattle.smk_plan_states.specs.Stays.{told_by}
 use Rattle.smk_plan_table.specs.declared.suspects.Suspect.{Suspect}
 use Rattle.smk_plan_table.specs.Plans.{Agree, IsGiven, IsRefusedAt}
 use Rattle.smk_plan_live.specs.declared.base.Base.{Base}
 use Rattle.smk_plan_live.specs.declared.lending.Lent.{Lent}
 use Rattle.smk_plan_live.specs.Phases.{begun_in, has_begun}
 use Rattle.smk_plan_live.specs.Now.{known_now, seen_now}
-use Rattle.smk_plan_live.specs.Lives.{AreLentNow, AreWhole, IsAgreed, IsTold, facts_now, judging_of, progress_of}
+use Rattle.smk_plan_live.specs.Lives.{AreLentNow, AreWhole, IsAgreed, IsTold, facts_now, judging_of, progress_of, told_lent}
 use Rattle.smk_plan_live.proofs.Bridge.{reasons_are, forced_are}
 use Rattle.smk_plan_live.proofs.Counted.{as_known, counted_agrees, held_same, made_same, refusal_same, unmarked}
 use Rattle.smk_plan_live.proofs.Numbered.{begun_are, running_are}
@@ -36,6 +38,13 @@ whole_flags jobs test [] [] h made = refl
 whole_flags jobs test [] (f ∷ flags) h made = absurd h
 whole_flags jobs test (m ∷ makers) [] h made = absurd h
 whole_flags jobs test (m ∷ makers) (f ∷ flags) h made = ap₂ (λ g gs. g ∷ gs) (h.0 made.0) (whole_flags jobs test makers flags h.1 made.1)
+
+-- what is lent is told by the rows
+pub rows_tell :
+    (l : Lent) (makers : List Bool) (began : List (Option State)) (rows : Rows) → rows.outputs.now ≡ l.outputs.items → rows.makers.now ≡ makers →
+    rows.reasons.now ≡ l.reasons.items → rows.forced.now ≡ l.forced.items → rows.running.now ≡ began → told_by rows ≡ told_lent l makers began
+rows_tell l makers began rows outputs whole reasons forced running = λ i.
+    record { outputs = lent (outputs i); makers = whole i; reasons = lent (reasons i); forced = forced i; running = running i }
 
 module _ (facts_law : FactsAreSo) (wholes_law : WholesAreSo) (b : Base) (settings : Settings) (image : Image) (agrees : IsAgreed image settings b) where
   -- the folder as it counts now

@@ -38,6 +38,11 @@ lent_beyond {A = A} refs n x h = set_beyond (lent refs) n x (subst (λ m. m ≤ 
 
 -- ## Several elements
 
+-- what holds of what is made of two lists holds of both together
+pub each_joined : {A B : Type 0} (P : B → Type 0) (g : A → B) (xs ys : List A) → Each P (map g xs) → Each P (map g ys) → Each P (map g (xs ++ ys))
+each_joined P g [] ys h k = k
+each_joined P g (x ∷ xs) ys h k = (h.0, each_joined P g xs ys h.1 k)
+
 -- a part of the thing with its number
 abbrev pub numbered : {A N : Type 0} → (N → ℕ) → (N → A) → N → ℕ × A
 numbered number part e = (number e, part e)

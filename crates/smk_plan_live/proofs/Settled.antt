@@ -28,16 +28,11 @@ use Rattle.smk_plan_live.specs.declared.renewing.Renewed.{Renewed}
 use Rattle.smk_plan_live.specs.Now.{known_now, seen_now}
 use Rattle.smk_plan_live.specs.Same.{paths_in, is_user, AreSameBut, put_each, user_facts, renewed, user_news, reader_news, all_news, numbered_facts, numbered_reasons, users_from}
 use Rattle.smk_plan_live.specs.Lives.{AreMakersWhole}
-use Rattle.smk_plan_live.proofs.Putting.{is_numbered, mapped_at, put_are, put_one}
+use Rattle.smk_plan_live.proofs.Putting.{each_joined, is_numbered, mapped_at, put_are, put_one}
 use Rattle.smk_plan_live.proofs.Restoring.{at_same}
 use Rattle.smk_plan_live.proofs.Same.{facts_same, user_same, outputs_same, made_same}
 
 -- ## News
-
--- what holds of what is numbered in two lists holds of both together
-each_joined : {A B : Type 0} (P : B → Type 0) (g : A → B) (xs ys : List A) → Each P (map g xs) → Each P (map g ys) → Each P (map g (xs ++ ys))
-each_joined P g [] ys h k = k
-each_joined P g (x ∷ xs) ys h k = (h.0, each_joined P g xs ys h.1 k)
 
 numbered_first : {A B : Type 0} (g : A → ℕ × B) (xs ys : List A) (m : ℕ) → is_numbered (map g xs) m ≡ true → is_numbered (map g (xs ++ ys)) m ≡ true
 numbered_first g [] ys m h = absurd (never_both false h refl)

@@ -1,5 +1,5 @@
 -- What is true of each plan that is kept, whatever was called.
-use Rattle.std.specs.Prelude.{◌≡◌, ℕ, Bool, true, false, List, [], map, length, Some, None}
+use Rattle.std.specs.Prelude.{◌≡◌, ℕ, Bool, true, false, List, [], map, length, Option, Some, None}
 use Rattle.std.specs.List.{list_all, slice_get, AllZip}
 use Rattle.std.specs.BTreeMap.{get_by_text}
 use Rattle.std.specs.BTreeSet.{contains_text}
@@ -7,6 +7,7 @@ use Rattle.smk_world.specs.Trees.{Path, Each, among}
 use Rattle.smk_flow.specs.declared.job.Job.{Job}
 use Rattle.smk_store.specs.Images.{Image}
 use Rattle.smk_trigger.specs.declared.facts.JobFacts.{JobFacts}
+use Rattle.smk_trigger.specs.declared.reason.Reason.{Reason}
 use Rattle.smk_trigger.specs.declared.reason.State.{State}
 use Rattle.smk_trigger.specs.Reasons.{reasons_of}
 use Rattle.smk_pick.specs.declared.settings.Settings.{Settings}
@@ -16,9 +17,13 @@ use Rattle.smk_plan.specs.declared.wholes.Wholes.{Wholes}
 use Rattle.smk_plan.specs.States.{Progress, test_some}
 use Rattle.smk_plan_facts.specs.Facts.{told_sources, IsMade}
 use Rattle.smk_plan_facts.specs.Telling.{facts_in, forced_by, has_path_texts, IsSorted, directories_of, is_told_whole, outputs_in, wholes_in}
+use Rattle.smk_plan_states.specs.declared.standing.Last.{Last}
+use Rattle.smk_plan_states.specs.declared.table.Table.{Table}
 use Rattle.smk_plan_states.specs.Served.{AreServed}
 use Rattle.smk_plan_states.specs.Judged.{Judging, any_held_back}
 use Rattle.smk_plan_states.specs.Rows.{lent}
+use Rattle.smk_plan_states.specs.Standing.{FollowsBy, StandsBy}
+use Rattle.smk_plan_states.specs.Stays.{Told as TellsRows}
 use Rattle.smk_plan_states.specs.Tables.{IsTableOf}
 use Rattle.smk_plan_table.specs.declared.suspects.Suspect.{Suspect}
 use Rattle.smk_plan_table.specs.Parts.{IsSuspectOf}
@@ -114,8 +119,33 @@ pub record AreLentNow (settings : Settings) (b : Base) (rows : Lent) (makers : L
   pub forced : rows.forced.items ≡ map (λ (f : JobFacts). f.forced) (facts_now settings b)
   pub doubted : AllZip (IsSuspectOf (known_now b) (seen_now b) settings.bounds) b.jobs.jobs suspects
 
+-- ## What is kept of ranks
+
+-- what is told of the jobs by what is lent of them, where these run
+abbrev pub told_lent : Lent → List Bool → List (Option State) → TellsRows
+told_lent rows makers began =
+    record { outputs = lent rows.outputs.items; makers = makers; reasons = lent rows.reasons.items; forced = rows.forced.items; running = began }
+
+-- the same by what is kept of them
+abbrev pub told_kept : Flags → List (List Reason) → List JobFacts → List (Option State) → TellsRows
+told_kept flags reasons facts began =
+    record { outputs = flags.outputs; makers = flags.makers; reasons = reasons; forced = map (λ (f : JobFacts). f.forced) facts; running = began }
+
+-- what was kept of the last plan, if anything, stood then, and what is told now differs from that by a step of one job
+abbrev pub FollowsLent : Settings → Base → Table → Lent → List Bool → Option Last → Type 0
+FollowsLent settings b table rows makers last = AreServed b.jobs settings.targets → FollowsBy table last (told_lent rows makers b.began)
+
+-- what the plan tells of its jobs, where these run
+abbrev pub told_live : LivePlan → List (Option State) → TellsRows
+told_live p began = told_kept p.flags p.reasons.items p.facts.items began
+
+-- its states are those by what it tells, where these run, and so is what is kept of their ranks
+abbrev pub Stands : LivePlan → List (Option State) → Type 0
+Stands p began = StandsBy p.table (told_live p began) (record { states = p.plan.states; ranking = p.ranking })
+
 -- What is true of each plan that is kept: its base is sound; there is a state for each job, and it is told of each target whether it is current; the jobs are
--- judged by what is known and was seen now; what it tells is by the definitions; what it keeps by numbers is so; and where all are seen to have commands they have.
+-- judged by what is known and was seen now; what it tells is by the definitions; what it keeps by numbers, and of ranks, is so; and where all are seen to have
+-- commands they have.
 pub record IsLive (p : LivePlan) : Type 0 where
   pub sound : IsSound p.base
   -- each input of a job is a path
@@ -128,5 +158,6 @@ pub record IsLive (p : LivePlan) : Type 0 where
   pub table : IsTableOf p.base.jobs p.settings.targets p.table
   pub flags : AreServed p.base.jobs p.settings.targets → AreFlagsNow p.settings p.base p.flags
   pub readers : AreServed p.base.jobs p.settings.targets → p.readers.items ≡ readers_of p.base.jobs.jobs
+  pub standing : AreServed p.base.jobs p.settings.targets → Stands p p.base.began
   pub named : AreNamed p.base
   pub commands : p.commanded ≡ true → list_all (has_command p.settings.cores) p.base.jobs.jobs ≡ true

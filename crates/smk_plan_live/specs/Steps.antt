@@ -1,5 +1,5 @@
 -- What is told anew of a base: of all jobs, or once what is known and seen has changed at the outputs of one.
-use Rattle.std.specs.Prelude.{◌≡◌, Bool, true, ℕ, List, [], map, length, slice_set, Option, Some, None}
+use Rattle.std.specs.Prelude.{◌≡◌, ◌==◌, Bool, true, false, ℕ, List, [], map, length, slice_set, Option, Some, None}
 use Rattle.std.specs.List.{list_all, slice_get}
 use Rattle.std.specs.BTreeSet.{contains_text}
 use Rattle.smk_world.specs.Trees.{Path, outs_of}
@@ -12,7 +12,12 @@ use Rattle.smk_trigger.specs.declared.reason.State.{State}
 use Rattle.smk_pick.specs.declared.settings.Settings.{Settings}
 use Rattle.smk_plan.specs.declared.seen.Sight.{Sight}
 use Rattle.smk_plan_facts.specs.Telling.{flags_but, forced_by, has_path_texts, is_made_of, outputs_in}
+use Rattle.smk_plan.specs.declared.plan.Plan.{Plan}
+use Rattle.smk_plan_states.specs.declared.standing.Last.{Last}
+use Rattle.smk_plan_states.specs.declared.standing.Ranking.{Ranking}
 use Rattle.smk_plan_states.specs.Served.{AreServed}
+use Rattle.smk_plan_states.specs.Standing.{StandsBy}
+use Rattle.smk_plan_states.specs.Stays.{Told as TellsRows}
 use Rattle.smk_plan_states.specs.Tables.{IsTableOf}
 use Rattle.smk_plan_table.specs.declared.suspects.Suspect.{Suspect}
 use Rattle.smk_plan_table.specs.Parts.{IsSuspectOf}
@@ -28,9 +33,9 @@ use Rattle.smk_plan_live.specs.declared.spending.Loss.{Loss}
 use Rattle.smk_plan_live.specs.declared.phase.Phase.{Phase}
 use Rattle.smk_plan_live.specs.declared.phase.Phase.TheVariants.{Running}
 use Rattle.smk_plan_live.specs.Now.{known_now, seen_now}
-use Rattle.smk_plan_live.specs.Same.{AreSameBut, all_news, readers_of}
+use Rattle.smk_plan_live.specs.Same.{AreSameBut, all_news, numbered_force, numbered_reasons, put_each, readers_of}
 use Rattle.smk_plan_live.specs.Carried.{begun_entries, gone_sights, has_name, sight_but}
-use Rattle.smk_plan_live.specs.Lives.{AreFlagsNow, AreNamed, IsLive, IsNow, IsSound, facts_now}
+use Rattle.smk_plan_live.specs.Lives.{AreFlagsNow, AreNamed, IsLive, IsNow, IsSound, facts_now, told_kept}
 use Rattle.smk_plan_live.specs.Phases.{begun_in}
 
 -- ## All jobs
@@ -44,12 +49,18 @@ pub record IsKept (settings : Settings) (b : Base) (kept : Kept) : Type 0 where
   pub flags : AreFlagsNow settings b kept.flags
   pub readers : IsSound b → AreServed b.jobs settings.targets → kept.readers.items ≡ readers_of b.jobs.jobs
 
+-- the states of the plan are those by what is kept, where these run, and so is what is kept of their ranks
+abbrev pub StandsKept : Kept → List (Option State) → Plan → Ranking → Type 0
+StandsKept kept began plan ranking =
+    StandsBy kept.table (told_kept kept.flags kept.reasons.items kept.facts.items began) (record { states = plan.states; ranking = ranking })
+
 -- The same, and the plan by it.
 pub record IsToldAnew (settings : Settings) (b : Base) (told : Told) : Type 0 where
   pub kept : IsKept settings b told.kept
   pub each : length told.plan.states ≡ length b.jobs.jobs
   pub targets : length told.plan.current ≡ length settings.targets
   pub now : IsSound b → AreNamed b → IsNow settings b told.plan told.held
+  pub standing : AreServed b.jobs settings.targets → StandsKept told.kept b.began told.plan told.ranking
 
 -- ## One job
 
@@ -62,6 +73,8 @@ pub record IsChanged (settings : Settings) (old new : Base) (n : ℕ) (forced : 
   pub others :
       AreServed new.jobs settings.targets → (m : ℕ) (k : Job) → (m ≡ n → ⊥) → slice_get new.jobs.jobs m ≡ Some k →
       forced_by settings (begun_in new.jobs.jobs new.phases) k ≡ forced_by settings (begun_in old.jobs.jobs old.phases) k
+  -- no other job runs, or with another state at its beginning, than before
+  pub running : (m : ℕ) → (m == n) ≡ false → slice_get new.began m ≡ slice_get old.began m
 
 -- the jobs have come so far, and this is what is known and was seen of their outputs
 abbrev pub moved : List Phase → List (Option State) → List (Option (List (Option Entry))) → List (Option (List (Option Sight))) → Base → Base
@@ -100,12 +113,35 @@ pub record IsChangeOf (p : LivePlan) (n : ℕ) (forced : Bool) (change : Change)
   pub doubted : IsSuspectOf (known_now p.base) (seen_now p.base) p.settings.bounds job suspect
   pub suspects : change.suspects.items ≡ slice_set p.flags.suspects n suspect
 
+-- This is what the plan keeps of its states and ranks before a step of the job of the number n.
+pub record IsLast (p : LivePlan) (n : ℕ) (last : Last) : Type 0 where
+  pub ranking : last.ranking.now ≡ p.ranking
+  pub states : last.states.now ≡ p.plan.states
+  pub job : last.job ≡ n
+  pub readers : last.readers.now ≡ readers_at p.readers.items n
+
+-- what is told of the jobs by what the plan keeps and what is told anew of it
+abbrev pub told_next : LivePlan → Change → TellsRows
+told_next p change =
+    record {
+      outputs = slice_set p.flags.outputs change.number change.outputs;
+      makers = change.makers;
+      reasons = put_each p.reasons.items (map numbered_reasons change.news.items);
+      forced = put_each (map (λ (f : JobFacts). f.forced) p.facts.items) (map numbered_force change.news.items);
+      running = p.base.began;
+    }
+
+-- the states of a plan are those by it, and so is what is kept of their ranks
+abbrev pub StandsNext : LivePlan → Change → Plan → Ranking → Type 0
+StandsNext p change plan ranking = StandsBy p.table (told_next p change) (record { states = plan.states; ranking = ranking })
+
 -- This is new where the base of the plan has changed at the outputs of the job of the number n, which is forced or not: what is told anew, and the plan by it.
 pub record IsNext (p : LivePlan) (n : ℕ) (forced : Bool) (next : Next) : Type 0 where
   pub change : IsChangeOf p n forced next.change
   pub each : length next.plan.states ≡ length p.base.jobs.jobs
   pub targets : length next.plan.current ≡ length p.settings.targets
   pub now : IsAhead p n forced → IsNow p.settings p.base next.plan next.held
+  pub standing : IsAhead p n forced → AreServed p.base.jobs p.settings.targets → StandsNext p next.change next.plan next.ranking
 
 -- ## A job that is closed
 

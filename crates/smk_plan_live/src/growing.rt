@@ -75,7 +75,12 @@ impl LivePlan {
                 Err(fault)
             }
             Ok(told) => {
-                let Told { kept, plan, held } = told;
+                let Told {
+                    kept,
+                    plan,
+                    ranking,
+                    held,
+                } = told;
                 let Kept {
                     facts,
                     reasons,
@@ -90,6 +95,7 @@ impl LivePlan {
                 self.facts = facts;
                 self.reasons = reasons;
                 self.plan = plan;
+                self.ranking = ranking;
                 self.held = held;
                 self.table = table;
                 self.flags = flags;

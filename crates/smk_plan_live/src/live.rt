@@ -14,7 +14,7 @@ use smk_base::{List, PathText};
 use smk_chain::Jobs;
 use smk_pick::Settings;
 use smk_plan::{Plan, Sight};
-use smk_plan_states::Table;
+use smk_plan_states::{Ranking, Table};
 use smk_store::Entry;
 use smk_trigger::{JobFacts, Reason, State};
 
@@ -26,6 +26,8 @@ pub struct LivePlan {
     pub(crate) facts: Vec<JobFacts>,
     pub(crate) reasons: Vec<List<Reason>>,
     pub(crate) plan: Plan,
+    /// What is kept of the ranks of the jobs for the next step.
+    pub(crate) ranking: Ranking,
     /// Whether some job is to be restored but counts as Clean.
     pub(crate) held: bool,
     /// How the paths of the jobs and targets hang together.

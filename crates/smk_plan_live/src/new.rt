@@ -7,7 +7,8 @@ ghost use Rattle.smk_trigger.specs.Reasons.{reasons_of};
 ghost use Rattle.smk_plan_facts.specs.Telling.{has_path_texts};
 ghost use Rattle.smk_plan_table.specs.Plans.{Agree, IsRefused};
 ghost use Rattle.smk_plan_live.specs.Lives.{AreFlagsNow, AreNamed, IsLive, IsAgreed, IsNow, IsSound, IsRefusedNow, facts_now};
-ghost use Rattle.smk_plan_live.specs.Steps.{IsKept, IsToldAnew};
+ghost use Rattle.smk_plan_states.specs.Served.{AreServed};
+ghost use Rattle.smk_plan_live.specs.Steps.{IsKept, IsToldAnew, StandsKept};
 ghost use Rattle.smk_plan_live.specs.Changes.{IsFirst};
 
 use crate::LivePlan;
@@ -25,7 +26,7 @@ use smk_chain::Jobs;
 use smk_pick::Settings;
 use smk_plan::{Plan, PlanFault, Seen};
 use smk_plan_facts::{all_outputs_told, facts_told, makers_told};
-use smk_plan_states::Table;
+use smk_plan_states::{Ranking, Table};
 use smk_plan_table::suspects_of;
 use smk_store::Store;
 use smk_trigger::{JobFacts, Plain, Reason, all_reasons};
@@ -51,11 +52,12 @@ pub(crate) struct Kept {
     pub(crate) readers: Vec<List<usize>>,
 }
 
-/// The same with the plan by it, and whether a job is held back.
+/// The same with the plan by it, what is kept of ranks, and whether a job is held back.
 #[derive(Drop)]
 pub(crate) struct Told {
     pub(crate) kept: Kept,
     pub(crate) plan: Plan,
+    pub(crate) ranking: Ranking,
     pub(crate) held: bool,
 }
 
@@ -138,6 +140,7 @@ fn tell_kept(
     requires { IsKept settings.now base.now kept.now }
     ensures each { IfOk result (λ made. length made.plan.states ≡ length base.now.jobs.jobs) }
     ensures targets { IfOk result (λ made. length made.plan.current ≡ length settings.now.targets) }
+    ensures standing { IfOk result (λ made. AreServed base.now.jobs settings.now.targets → StandsKept kept.now base.now.began made.plan made.ranking) }
     ensures now { IfOk result (λ made. IsSound base.now → AreNamed base.now → IsNow settings.now base.now made.plan made.held) }
     ensures refused { IfErr result (λ fault. fault ≢ PlanFault.OutOfMemory → IsSound base.now → AreNamed base.now → IsRefusedNow settings.now base.now fault) }
 {
@@ -156,7 +159,7 @@ fn tell_kept(
             &rows,
             makers,
             suspects,
-            &[],
+            None,
         ),
     }
 }
@@ -172,6 +175,7 @@ fn told_by(alloc: Global, base: &Base, settings: &Settings, kept: Kept) -> Resul
         Ok(made) => Ok(Told {
             kept,
             plan: made.plan,
+            ranking: made.ranking,
             held: made.held,
         }),
     }
@@ -231,7 +235,12 @@ fn over<Rt: Threads + Sync>(
     match told_of(rt, alloc, &base, &settings) {
         Err(fault) => Err(fault),
         Ok(told) => {
-            let Told { kept, plan, held } = told;
+            let Told {
+                kept,
+                plan,
+                ranking,
+                held,
+            } = told;
             let jobs = base.jobs.jobs.as_slice();
             let commanded = are_seen(alloc, settings.cores, jobs, plan.states.as_slice());
             Ok(LivePlan {
@@ -240,6 +249,7 @@ fn over<Rt: Threads + Sync>(
                 facts: kept.facts,
                 reasons: kept.reasons,
                 plan,
+                ranking,
                 held,
                 table: kept.table,
                 flags: kept.flags,

@@ -5,7 +5,8 @@ ghost use Rattle.std.specs.List.{slice_get};
 ghost use Rattle.smk_plan_states.specs.Tables.{IsTableOf};
 ghost use Rattle.smk_plan_live.specs.Lives.{IsLive, IsNow, IsRefusedNow};
 ghost use Rattle.smk_plan_live.specs.Same.{put_each, numbered_facts, numbered_reasons};
-ghost use Rattle.smk_plan_live.specs.Steps.{IsAhead, IsChangeOf, IsNext, readers_at};
+ghost use Rattle.smk_plan_states.specs.Served.{AreServed};
+ghost use Rattle.smk_plan_live.specs.Steps.{IsAhead, IsChangeOf, IsLast, IsNext, StandsNext, readers_at};
 
 use crate::LivePlan;
 use crate::lending::lend_with;
@@ -16,6 +17,7 @@ use smk_base::{List, OutOfMemory};
 use smk_flow::Job;
 use smk_plan::{Plan, PlanFault};
 use smk_plan_facts::{makers_again, outputs_told};
+use smk_plan_states::{Last, Ranking};
 use smk_plan_table::{Suspect, suspect_of};
 use smk_trigger::{JobFacts, Judge, Reason};
 use std::alloc::Global;
@@ -35,11 +37,12 @@ pub(crate) struct Change {
     pub(crate) suspects: Vec<Suspect>,
 }
 
-/// The same, and the plan with it.
+/// The same, and the plan with it and with what is kept of ranks.
 #[derive(Drop)]
 pub(crate) struct Next {
     pub(crate) change: Change,
     pub(crate) plan: Plan,
+    pub(crate) ranking: Ranking,
     pub(crate) held: bool,
 }
 
@@ -136,6 +139,19 @@ impl LivePlan {
         })
     }
 
+    // What was kept before the step of the job of the number.
+    fn last(&self, number: usize) -> Last<'_>
+        ensures { IsLast self.now number result }
+    {
+        let rows = self.readers.as_slice();
+        Last {
+            ranking: &self.ranking,
+            states: self.plan.states.as_slice(),
+            job: number,
+            readers: readers_at(rows, number),
+        }
+    }
+
     // The plan with what is told anew of the job of the number, which is forced or not.
     fn tell_changed(
         &self,
@@ -149,6 +165,8 @@ impl LivePlan {
         ensures each { IfOk result (λ made. length made.plan.states ≡ length self.now.base.jobs.jobs) }
         ensures targets { IfOk result (λ made. length made.plan.current ≡ length self.now.settings.targets) }
         ensures now { IfOk result (λ made. IsAhead self.now number forced → IsNow self.now.settings self.now.base made.plan made.held) }
+        ensures standing { IfOk result (λ made. IsAhead self.now number forced → AreServed self.now.base.jobs self.now.settings.targets
+            → StandsNext self.now change.now made.plan made.ranking) }
         ensures refused { IfErr result (λ fault. fault ≢ PlanFault.OutOfMemory → IsAhead self.now number forced
             → IsRefusedNow self.now.settings self.now.base fault) }
     {
@@ -157,6 +175,7 @@ impl LivePlan {
         let facts = self.facts.as_slice();
         let makers = change.makers.as_slice();
         let suspects = change.suspects.as_slice();
+        let last = self.last(number);
         match lend_with(alloc, outputs, reasons, facts, change) {
             Err(_) => Err(PlanFault::OutOfMemory),
             Ok(rows) => tell(
@@ -167,7 +186,7 @@ impl LivePlan {
                 &rows,
                 makers,
                 suspects,
-                self.plan.states.as_slice(),
+                Some(last),
             ),
         }
     }
@@ -191,6 +210,7 @@ impl LivePlan {
             Ok(made) => Ok(Next {
                 change,
                 plan: made.plan,
+                ranking: made.ranking,
                 held: made.held,
             }),
         }
@@ -222,14 +242,19 @@ impl LivePlan {
         ensures base { (self.new.base ≡ self.old.base) × (self.new.settings ≡ self.old.settings) }
         ensures facts { self.new.facts.items ≡ put_each self.old.facts.items (map numbered_facts next.change.news.items) }
         ensures reasons { self.new.reasons.items ≡ put_each self.old.reasons.items (map numbered_reasons next.change.news.items) }
-        ensures plan { (self.new.plan ≡ next.plan) × (self.new.held ≡ next.held) }
+        ensures plan { (self.new.plan ≡ next.plan) × (self.new.ranking ≡ next.ranking) × (self.new.held ≡ next.held) }
         ensures outputs { self.new.flags.outputs ≡ slice_set self.old.flags.outputs next.change.number next.change.outputs }
         ensures makers { self.new.flags.makers ≡ next.change.makers }
         ensures suspects { self.new.flags.suspects ≡ next.change.suspects.items }
         ensures paths { (self.new.table ≡ self.old.table) × (self.new.readers ≡ self.old.readers) }
         ensures commands { self.new.commanded ≡ self.old.commanded }
     {
-        let Next { change, plan, held } = next;
+        let Next {
+            change,
+            plan,
+            ranking,
+            held,
+        } = next;
         let Change {
             number,
             news,
@@ -242,6 +267,7 @@ impl LivePlan {
         self.flags.makers = makers;
         self.flags.suspects = Slots::of(suspects);
         self.plan = plan;
+        self.ranking = ranking;
         self.held = held;
     }
 

@@ -5,7 +5,8 @@ ghost use Rattle.smk_plan.specs.States.{job_path};
 ghost use Rattle.smk_plan_states.specs.Served.{AreServed};
 ghost use Rattle.smk_plan_states.specs.Tables.{IsTableOf};
 ghost use Rattle.smk_plan_live.specs.Phases.{has_begun, begun_in};
-ghost use Rattle.smk_plan_live.specs.Lives.{AreLentNow, IsNow, IsRefusedNow};
+ghost use Rattle.smk_plan_states.specs.Standing.{StandsBy};
+ghost use Rattle.smk_plan_live.specs.Lives.{AreLentNow, FollowsLent, IsNow, IsRefusedNow, told_lent};
 
 use crate::Phase;
 use crate::base::Base;
@@ -16,15 +17,15 @@ use smk_flow::Job;
 use smk_pick::Settings;
 use smk_plan::{Plan, PlanFault};
 use smk_plan_facts::told_is_so;
-use smk_plan_states::{Rows, Table};
-use smk_plan_table::{Suspect, plan_now};
-use smk_trigger::State;
+use smk_plan_states::{Last, Ranking, Rows, Table};
+use smk_plan_table::{Stood, Suspect, plan_now};
 use std::alloc::Global;
 
-/// A plan, and whether some job is to be restored but counts as Clean.
+/// A plan, what is kept of the ranks of its jobs, and whether some job is to be restored but counts as Clean.
 #[derive(Drop)]
 pub(crate) struct Made {
     pub(crate) plan: Plan,
+    pub(crate) ranking: Ranking,
     pub(crate) held: bool,
 }
 
@@ -105,15 +106,18 @@ fn tell_by(
     makers: &[bool],
     begun: &[bool],
     suspects: &[Suspect],
-    before: &[State],
+    last: Option<Last<'_>>,
 ) -> Result<Made, PlanFault>
     requires table { IsTableOf base.now.jobs settings.now.targets table.now }
     requires begun { begun.now ≡ map has_begun base.now.phases }
     ensures each { IfOk result (λ made. length made.plan.states ≡ length base.now.jobs.jobs) }
     ensures targets { IfOk result (λ made. length made.plan.current ≡ length settings.now.targets) }
-    ensures now { IfOk result (λ made. (AreServed base.now.jobs settings.now.targets → AreLentNow settings.now base.now lent.now makers.now suspects.now)
+    ensures standing { IfOk result (λ made. AreServed base.now.jobs settings.now.targets → FollowsLent settings.now base.now table.now lent.now makers.now last.entry
+        → StandsBy table.now (told_lent lent.now makers.now base.now.began) (record { states = made.plan.states; ranking = made.ranking })) }
+    ensures now { IfOk result (λ made. FollowsLent settings.now base.now table.now lent.now makers.now last.entry
+        → (AreServed base.now.jobs settings.now.targets → AreLentNow settings.now base.now lent.now makers.now suspects.now)
         → IsNow settings.now base.now made.plan made.held) }
-    ensures refused { IfErr result (λ fault. fault ≢ PlanFault.OutOfMemory
+    ensures refused { IfErr result (λ fault. fault ≢ PlanFault.OutOfMemory → FollowsLent settings.now base.now table.now lent.now makers.now last.entry
         → (AreServed base.now.jobs settings.now.targets → AreLentNow settings.now base.now lent.now makers.now suspects.now)
         → IsRefusedNow settings.now base.now fault) }
 {
@@ -126,18 +130,25 @@ fn tell_by(
         running: base.began.as_slice(),
     };
     match plan_now(
-        alloc, &base.jobs, table, base, settings, &rows, begun, suspects, before,
+        alloc, &base.jobs, table, base, settings, &rows, begun, suspects, last,
     ) {
         Err(fault) => Err(fault),
-        Ok(plan) => match table.holds_back(alloc, &rows, plan.states.as_slice()) {
-            Err(_) => Err(PlanFault::OutOfMemory),
-            Ok(held) => Ok(Made { plan, held }),
-        },
+        Ok(stood) => {
+            let Stood { plan, ranking } = stood;
+            match table.holds_back(alloc, &rows, plan.states.as_slice()) {
+                Err(_) => Err(PlanFault::OutOfMemory),
+                Ok(held) => Ok(Made {
+                    plan,
+                    ranking,
+                    held,
+                }),
+            }
+        }
     }
 }
 
 /// The plan of the jobs by what is lent: the rows of this moment, which of the makers' paths are whole, and what may be refused of each job; and whether a job is
-/// held back. `before` are states that the jobs had, or none: a job whose reasons are the same as there shares them.
+/// held back. `last` is what was kept before a step of one job, or nothing: then states are told anew only where the step changes them, if no other job's rank does.
 ///
 /// The faults are those of a plan.
 pub(crate) fn tell(
@@ -148,14 +159,17 @@ pub(crate) fn tell(
     lent: &Lent<'_>,
     makers: &[bool],
     suspects: &[Suspect],
-    before: &[State],
+    last: Option<Last<'_>>,
 ) -> Result<Made, PlanFault>
     requires { IsTableOf base.now.jobs settings.now.targets table.now }
     ensures each { IfOk result (λ made. length made.plan.states ≡ length base.now.jobs.jobs) }
     ensures targets { IfOk result (λ made. length made.plan.current ≡ length settings.now.targets) }
-    ensures now { IfOk result (λ made. (AreServed base.now.jobs settings.now.targets → AreLentNow settings.now base.now lent.now makers.now suspects.now)
+    ensures standing { IfOk result (λ made. AreServed base.now.jobs settings.now.targets → FollowsLent settings.now base.now table.now lent.now makers.now last.entry
+        → StandsBy table.now (told_lent lent.now makers.now base.now.began) (record { states = made.plan.states; ranking = made.ranking })) }
+    ensures now { IfOk result (λ made. FollowsLent settings.now base.now table.now lent.now makers.now last.entry
+        → (AreServed base.now.jobs settings.now.targets → AreLentNow settings.now base.now lent.now makers.now suspects.now)
         → IsNow settings.now base.now made.plan made.held) }
-    ensures refused { IfErr result (λ fault. fault ≢ PlanFault.OutOfMemory
+    ensures refused { IfErr result (λ fault. fault ≢ PlanFault.OutOfMemory → FollowsLent settings.now base.now table.now lent.now makers.now last.entry
         → (AreServed base.now.jobs settings.now.targets → AreLentNow settings.now base.now lent.now makers.now suspects.now)
         → IsRefusedNow settings.now base.now fault) }
 {
@@ -170,7 +184,7 @@ pub(crate) fn tell(
             makers,
             begun.as_slice(),
             suspects,
-            before,
+            last,
         ),
     }
 }

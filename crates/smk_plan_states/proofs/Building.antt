@@ -113,7 +113,7 @@ module _
         ∙ filter_same (is_dirty_told ss (site_at at.image J)) (made_by (with_states J ss) is_dirty) (distinct bytes_eq (in_paths k.recipe))
         (λ q i. dirty_same k there q (distinct_in bytes_eq (in_paths k.recipe) q i)))
 
-    state_here :
+    pub state_here :
         state_by (kept_state at.image at.settings at.progress (with_states J []) k) (rank_of (late k))
         (own_of at.image at.settings at.progress J k
         ++ (map Upstream (upstream_paths (map rank_of ss) (map (origin_of J.jobs) J.makers) (line_of J at.settings.targets k).inputs) ++ when forced Forced))

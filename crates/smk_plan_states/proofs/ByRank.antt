@@ -386,7 +386,7 @@ module _
         (is_kept_in told_paths (parts_of at.image k) && not (is_in_use_told told_used (parts_of at.image k)))
         ∙ ap rank_of (first_here at J ss told_paths told_parts told_used is_solved before k after states (parts_of at.image k) (is_forced at.image at.settings at.progress (with_states J []) k) all refl refl refl)
 
-    first_is :
+    pub first_is :
         (line : Line) (u : Bool) → line ≡ line_of J at.settings.targets k → u ≡ read_now k →
         first_rank (map rank_of (map early before)) origins rows line number u ≡ rank_of (early k)
     first_is line u l e =

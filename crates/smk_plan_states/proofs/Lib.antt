@@ -17,5 +17,7 @@ mod Needing
 mod Building
 mod HeldByLinks
 mod Lacking
+mod Steps
+mod Kept
 mod LookUps
 pub mod Linked

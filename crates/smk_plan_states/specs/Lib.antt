@@ -15,6 +15,8 @@ pub mod Rows
 pub mod Ranks
 pub mod Spots
 pub mod Ranking
+pub mod Stays
+pub mod Standing
 pub mod Moment
 pub mod Ways
 pub mod Waits

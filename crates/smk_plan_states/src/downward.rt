@@ -117,8 +117,8 @@ pub(crate) fn lacks(flags: &[bool]) -> bool
     false
 }
 
-// Whether a job is Clean of which an output isn't whole.
-fn any_lacking(ranks: &[Rank], outputs: &[&List<bool>]) -> bool
+/// Whether a job is Clean of which an output isn't whole.
+pub(crate) fn any_lacking(ranks: &[Rank], outputs: &[&List<bool>]) -> bool
     ensures { result ≡ list_any is_lacking (zip ranks.now (lent outputs.now)) }
 {
     for (i, rank) in ranks.iter().enumerate() {

@@ -1,6 +1,7 @@
 //! The states of the jobs of a plan.
 #![tactic(auto)]
 
+mod after;
 mod awaits;
 mod downward;
 mod folders;
@@ -16,8 +17,10 @@ mod ready;
 mod reasons;
 mod rows;
 mod spots;
+mod standing;
 mod table;
 mod upward;
+mod watching;
 mod ways;
 
 pub use judged::Judged;
@@ -25,4 +28,5 @@ pub use laws::linked_jobs_serve;
 pub use lines::{Awaited, Gathered, Input, Line, Origin, Output, Target, Temp};
 pub use reasons::state_again;
 pub use rows::Rows;
+pub use standing::{Last, Ranking, Standing};
 pub use table::Table;

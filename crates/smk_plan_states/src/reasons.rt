@@ -11,6 +11,7 @@ ghost use Rattle.smk_plan_states.specs.Moment.{IsMoment};
 ghost use Rattle.smk_plan_states.specs.Ranks.{rank_of, state_by, plain_state};
 ghost use Rattle.smk_plan_states.specs.Ranking.{is_upstream, upstream_paths};
 ghost use Rattle.smk_plan_states.specs.Rows.{lent};
+ghost use Rattle.smk_plan_states.specs.Stays.{AreBuilt, told_by};
 
 use crate::lines::{Input, Line, Origin};
 use crate::ranks::Rank;
@@ -260,8 +261,8 @@ fn reasons_like(
     Reasons::of(alloc, found)
 }
 
-// The reasons of the state, where it has some.
-fn reasons_in(state: Option<&State>) -> Option<&Reasons> {
+/// The reasons of the state, where it has some.
+pub(crate) fn reasons_in(state: Option<&State>) -> Option<&Reasons> {
     match state {
         Some(State::Dirty(reasons)) => Some(reasons),
         _ => None,
@@ -292,8 +293,8 @@ fn plain_state(
     }
 }
 
-// The state of a job that has this rank among these, and had that state when its child began, if it runs.
-fn state_by(
+/// The state of a job that has this rank among these, and had that state when its child began, if it runs.
+pub(crate) fn state_by(
     alloc: Global,
     had: Option<&Reasons>,
     begun: Option<&State>,
@@ -327,6 +328,7 @@ pub(crate) fn states_of(
     ensures each { IfOk result (λ states. length states ≡ length lines.now) }
     ensures states { IfOk result (λ found. (at : Judging) (jobs : JobsValue) (states : Items StateValue) (used : Items Bool)
         → IsMoment at jobs states lines.now origins.now rows.now used → ranks.now ≡ map rank_of states → found ≡ states) }
+    ensures built { IfOk result (AreBuilt lines.now origins.now (told_by rows.now) ranks.now) }
 {
     let mut found = List::new(alloc);
     for (number, line) in lines.iter().enumerate() {

@@ -1,6 +1,6 @@
 //! The table of states: how the paths of jobs and targets hang together, by numbers, and the states of the jobs by it.
 
-ghost use Rattle.std.specs.Prelude.{◌≡◌, List as Items, length, map, [], IfOk};
+ghost use Rattle.std.specs.Prelude.{◌≡◌, List as Items, length, map, Some, [], IfOk};
 ghost use Rattle.smk_world.specs.Trees.{Path};
 ghost use Rattle.smk_chain.specs.declared.jobs.Jobs.{Jobs as JobsValue};
 ghost use Rattle.smk_plan.specs.States.{is_read_now};
@@ -8,18 +8,20 @@ ghost use Rattle.smk_trigger.specs.declared.reason.State.{State as StateValue};
 ghost use Rattle.smk_plan_states.specs.Judged.{Judging, AreStates, any_held_back, began, new_directories, targets_ready, with_states};
 ghost use Rattle.smk_plan_states.specs.Moment.{IsMoment};
 ghost use Rattle.smk_plan_states.specs.Rows.{AreRowsAt};
+ghost use Rattle.smk_plan_states.specs.Served.{AreServed};
+ghost use Rattle.smk_plan_states.specs.Standing.{FollowsBy, StandsBy};
+ghost use Rattle.smk_plan_states.specs.Stays.{AreWatched, told_by};
 ghost use Rattle.smk_plan_states.specs.Tables.{IsTableAt, IsTableOf};
 
 use crate::awaits::{each_once, spot_paths, spots_in};
-use crate::downward::last_ranks;
 use crate::holding::any_held;
 use crate::in_use::used_in;
 use crate::lines::{Awaited, Line, Origin, Target};
 use crate::making::{Wants, lines_of, origins_of, targets_of};
 use crate::ready::{new_in, ready_in};
-use crate::reasons::states_of;
 use crate::rows::Rows;
-use crate::upward::first_ranks;
+use crate::standing::{Last, Standing, stand, stand_after};
+use crate::watching::{watchers_at, watchers_of};
 use crate::ways::{Ways, read_in, sources_in};
 use smk_base::{List, OutOfMemory, PathText};
 use smk_chain::Jobs;
@@ -35,25 +37,32 @@ pub struct Table {
     origins: List<Origin>,
     targets: List<Target>,
     awaited: List<Awaited>,
+    // For each job the numbers of those that read or gather from what it makes.
+    watchers: Vec<List<usize>>,
 }
 
-// The states of the jobs, of which these flags tell whether a child reads what they made.
-fn solve(
+// The table of these parts, with those that watch each job.
+fn watched(
     alloc: Global,
-    lines: &[Line],
-    origins: &[Origin],
-    rows: &Rows<'_>,
-    used: &[bool],
-    before: &[State],
-) -> Result<List<State>, OutOfMemory>
-    ensures each { IfOk result (λ states. length states ≡ length lines.now) }
-    ensures states { IfOk result (λ found. (at : Judging) (jobs : JobsValue) (states : Items StateValue)
-        → IsMoment at jobs states lines.now origins.now rows.now used.now → found ≡ states) }
+    lines: List<Line>,
+    origins: List<Origin>,
+    targets: List<Target>,
+    awaited: List<Awaited>,
+) -> Result<Table, OutOfMemory>
+    ensures lines { IfOk result (λ table. table.lines ≡ lines) }
+    ensures origins { IfOk result (λ table. table.origins ≡ origins) }
+    ensures targets { IfOk result (λ table. table.targets ≡ targets) }
+    ensures awaited { IfOk result (λ table. table.awaited ≡ awaited) }
+    ensures watched { IfOk result (λ table. AreWatched table.lines table.origins table.watchers.items) }
 {
-    let first = first_ranks(alloc, lines, origins, rows, used)?;
-    let ranks = last_ranks(alloc, lines, origins, rows, used, first)?;
-    let states = states_of(alloc, lines, origins, rows, ranks.as_slice(), before)?;
-    Ok(states)
+    let watchers = watchers_of(alloc, &lines, &origins)?;
+    Ok(Table {
+        lines,
+        origins,
+        targets,
+        awaited,
+        watchers,
+    })
 }
 
 impl Table {
@@ -71,12 +80,12 @@ impl Table {
             read: read_in(alloc, jobs.jobs.as_slice())?,
         };
         let sources = sources_in(alloc, jobs.makers.as_slice())?;
-        Ok(Table {
-            lines: lines_of(alloc, &ways, &wants, jobs.jobs.as_slice())?,
-            origins: origins_of(alloc, &ways, jobs.makers.as_slice())?,
-            targets: targets_of(alloc, &ways, &sources, targets.as_slice())?,
-            awaited: each_once(alloc, spots.as_slice())?,
-        })
+        let lines = lines_of(alloc, &ways, &wants, jobs.jobs.as_slice())?;
+        let origins = origins_of(alloc, &ways, jobs.makers.as_slice())?;
+        let asked = targets_of(alloc, &ways, &sources, targets.as_slice())?;
+        let awaited = each_once(alloc, spots.as_slice())?;
+        let table = watched(alloc, lines, origins, asked, awaited)?;
+        Ok(table)
     }
 
     /// A line for each job. It takes no memory.
@@ -100,26 +109,70 @@ impl Table {
         self.targets.as_slice()
     }
 
-    /// The state of each job, by the table of states. `OutOfMemory` where there is no memory for them.
-    ///
-    /// A job that began Dirty stays so while its child runs, and one that began as a Restore isn't Clean. A Restore counts as Clean while a child
-    /// reads what it made. The time is linear in the jobs with their inputs and outputs, and the reasons of those that are Dirty.
-    ///
-    /// `before` are states that the jobs had, or none: a job whose reasons are the same as there shares them, and takes no memory for them.
-    pub fn states(
+    // The states after the step, or told anew where a rank may change.
+    fn stand_on(
         &self,
         alloc: Global,
         rows: &Rows<'_>,
-        before: &[State],
-    ) -> Result<List<State>, OutOfMemory>
-        ensures each { IfOk result (λ states. (jobs : JobsValue) (targets : Items Path) → IsTableOf jobs targets self.now → length states ≡ length jobs.jobs) }
-        ensures table { IfOk result (λ states. (at : Judging) (jobs : JobsValue) → IsTableAt at jobs self.now → AreRowsAt at jobs rows.now → AreStates at jobs states) }
+        last: Last<'_>,
+    ) -> Result<Standing, OutOfMemory>
+        ensures each { IfOk result (λ s. length s.states ≡ length self.now.lines) }
+        ensures standing { IfOk result (λ s. (jobs : JobsValue) (targets : Items Path) → IsTableOf jobs targets self.now → AreServed jobs targets
+            → FollowsBy self.now (Some last.entry) (told_by rows.now) → StandsBy self.now (told_by rows.now) s) }
+        ensures table { IfOk result (λ s. (at : Judging) (jobs : JobsValue) → IsTableAt at jobs self.now → AreRowsAt at jobs rows.now
+            → FollowsBy self.now (Some last.entry) (told_by rows.now) → AreStates at jobs s.states) }
     {
         let lines = self.lines.as_slice();
         let origins = self.origins.as_slice();
         let used = used_in(alloc, lines, origins, rows.running)?;
-        let states = solve(alloc, lines, origins, rows, used.as_slice(), before)?;
-        Ok(states)
+        let watchers = watchers_at(self.watchers.as_slice(), last.job);
+        match stand_after(alloc, lines, origins, rows, used, watchers, last)? {
+            Some(standing) => Ok(standing),
+            None => self.stand_anew(alloc, rows, last.states),
+        }
+    }
+
+    // The states, told anew of all jobs.
+    fn stand_anew(
+        &self,
+        alloc: Global,
+        rows: &Rows<'_>,
+        before: &[State],
+    ) -> Result<Standing, OutOfMemory>
+        ensures each { IfOk result (λ s. length s.states ≡ length self.now.lines) }
+        ensures standing { IfOk result (λ s. (jobs : JobsValue) (targets : Items Path) → IsTableOf jobs targets self.now → AreServed jobs targets
+            → StandsBy self.now (told_by rows.now) s) }
+        ensures table { IfOk result (λ s. (at : Judging) (jobs : JobsValue) → IsTableAt at jobs self.now → AreRowsAt at jobs rows.now → AreStates at jobs s.states) }
+    {
+        let lines = self.lines.as_slice();
+        let origins = self.origins.as_slice();
+        let used = used_in(alloc, lines, origins, rows.running)?;
+        let standing = stand(alloc, lines, origins, rows, used, before)?;
+        Ok(standing)
+    }
+
+    /// The state of each job, by the table of states, with what is kept of their ranks for the next step. `OutOfMemory` where there is no memory for them.
+    ///
+    /// A job that began Dirty stays so while its child runs, and one that began as a Restore isn't Clean. A Restore counts as Clean while a child
+    /// reads what it made. The time is linear in the jobs with their inputs and outputs, and the reasons of those that are Dirty. Where what was kept before
+    /// a step of one job is given, and no other rank changes by it, only the flags of all jobs are gone over, and what the job, its readers and those that
+    /// watch it have is looked at.
+    pub fn standing(
+        &self,
+        alloc: Global,
+        rows: &Rows<'_>,
+        last: Option<Last<'_>>,
+    ) -> Result<Standing, OutOfMemory>
+        ensures each { IfOk result (λ s. (jobs : JobsValue) (targets : Items Path) → IsTableOf jobs targets self.now → length s.states ≡ length jobs.jobs) }
+        ensures standing { IfOk result (λ s. (jobs : JobsValue) (targets : Items Path) → IsTableOf jobs targets self.now → AreServed jobs targets
+            → FollowsBy self.now last.entry (told_by rows.now) → StandsBy self.now (told_by rows.now) s) }
+        ensures table { IfOk result (λ s. (at : Judging) (jobs : JobsValue) → IsTableAt at jobs self.now → AreRowsAt at jobs rows.now
+            → FollowsBy self.now last.entry (told_by rows.now) → AreStates at jobs s.states) }
+    {
+        match last {
+            None => self.stand_anew(alloc, rows, &[]),
+            Some(last) => self.stand_on(alloc, rows, last),
+        }
     }
 
     /// For each target whether it is ready by these states: a job makes it that is Clean, and it is whole. `OutOfMemory` where there is no

@@ -9,6 +9,7 @@ ghost use Rattle.smk_plan_states.specs.First.{first_states};
 ghost use Rattle.smk_plan_states.specs.Moment.{IsMoment};
 ghost use Rattle.smk_plan_states.specs.Ranks.{rank_of};
 ghost use Rattle.smk_plan_states.specs.Ranking.{has_any, is_upstream, dirties_by, is_kept_by, table_rank, first_rank};
+ghost use Rattle.smk_plan_states.specs.Stays.{AreEarlier, AreFirst, told_by};
 
 use crate::lines::{Input, Line, Origin, Output};
 use crate::opening::is_open;
@@ -87,7 +88,7 @@ fn table_rank(
     by_rank(dirty, kept)
 }
 
-fn first_rank(
+pub(crate) fn first_rank(
     ranks: &[Rank],
     origins: &[Origin],
     rows: &Rows<'_>,
@@ -113,6 +114,7 @@ pub(crate) fn first_ranks(
     ensures each { IfOk result (λ ranks. length ranks.items ≡ length lines.now) }
     ensures ranks { IfOk result (λ ranks. (at : Judging) (jobs : JobsValue) (states : Items StateValue)
         → IsMoment at jobs states lines.now origins.now rows.now used.now → ranks.items ≡ map rank_of (first_states at jobs states)) }
+    ensures told { IfOk result (λ ranks. AreEarlier lines.now origins.now → AreFirst lines.now origins.now (told_by rows.now) used.now ranks.items) }
 {
     let mut ranks = Vec::new(alloc);
     for (number, line) in lines.iter().enumerate() {

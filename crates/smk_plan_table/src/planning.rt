@@ -5,6 +5,9 @@ ghost use Rattle.smk_store.specs.Images.{Image};
 ghost use Rattle.smk_chain.specs.declared.jobs.Jobs.{Jobs as JobsValue};
 ghost use Rattle.smk_plan_states.specs.Judged.{AreStates};
 ghost use Rattle.smk_plan_states.specs.Rows.{AreRowsAt};
+ghost use Rattle.smk_plan_states.specs.Served.{AreServed};
+ghost use Rattle.smk_plan_states.specs.Standing.{FollowsBy, StandsBy};
+ghost use Rattle.smk_plan_states.specs.Stays.{told_by};
 ghost use Rattle.smk_plan_states.specs.Tables.{IsTableAt, IsTableOf};
 ghost use Rattle.smk_plan_table.specs.Bases.{IsBasisAt};
 ghost use Rattle.smk_plan_table.specs.Parts.{shown};
@@ -20,11 +23,18 @@ use smk_base::{List, OutOfMemory, PathText};
 use smk_chain::Jobs;
 use smk_pick::Settings;
 use smk_plan::{Loaded, Plan, PlanFault, Seen, Told};
-use smk_plan_states::{Rows, Table};
+use smk_plan_states::{Last, Ranking, Rows, Standing, Table};
 use smk_store::Store;
 use smk_trigger::{Reason, State};
 use std::alloc::Global;
 use std::thread::Threads;
+
+/// A plan, with what is kept of the ranks of its jobs for the next step.
+#[derive(Drop)]
+pub struct Stood {
+    pub plan: Plan,
+    pub ranking: Ranking,
+}
 
 // What a plan tells of jobs of these states.
 fn tell<T: Told>(
@@ -113,7 +123,7 @@ fn plan_by<T: Told>(
 /// The time is linear in the jobs with their inputs and outputs, by numbers; paths are looked up only of targets that are sources and of directories that have
 /// become ready, and of the outputs of jobs where something is suspected.
 ///
-/// `before` are states that the jobs had, or none: a job whose reasons are the same as there shares them.
+/// `last` is what was kept before a step of one job, or nothing: then the states are told anew only where the step changes them, if no other job's rank does.
 pub fn plan_now<T: Told>(
     alloc: Global,
     jobs: &Jobs,
@@ -123,21 +133,30 @@ pub fn plan_now<T: Told>(
     rows: &Rows<'_>,
     begun: &[bool],
     suspects: &[Suspect],
-    before: &[State],
-) -> Result<Plan, PlanFault>
+    last: Option<Last<'_>>,
+) -> Result<Stood, PlanFault>
     requires table { IsTableOf jobs.now settings.now.targets table.now }
-    ensures each { IfOk result (λ made. length made.states ≡ length jobs.now.jobs) }
-    ensures targets { IfOk result (λ made. length made.current ≡ length settings.now.targets) }
-    ensures made { IfOk result (λ made. WhereAgreed jobs.now (T.known told.now) (T.seen told.now) settings.now
-        (λ at. IsGiven at jobs.now (T.known told.now) (T.seen told.now) rows.now begun.now suspects.now → HasMadeAt at jobs.now made)) }
-    ensures refused { IfErr result (λ fault. fault ≢ PlanFault.OutOfMemory → WhereAgreed jobs.now (T.known told.now) (T.seen told.now) settings.now
+    ensures each { IfOk result (λ made. length made.plan.states ≡ length jobs.now.jobs) }
+    ensures targets { IfOk result (λ made. length made.plan.current ≡ length settings.now.targets) }
+    ensures standing { IfOk result (λ made. AreServed jobs.now settings.now.targets → FollowsBy table.now last.entry (told_by rows.now)
+        → StandsBy table.now (told_by rows.now) (record { states = made.plan.states; ranking = made.ranking })) }
+    ensures made { IfOk result (λ made. FollowsBy table.now last.entry (told_by rows.now) → WhereAgreed jobs.now (T.known told.now) (T.seen told.now) settings.now
+        (λ at. IsGiven at jobs.now (T.known told.now) (T.seen told.now) rows.now begun.now suspects.now → HasMadeAt at jobs.now made.plan)) }
+    ensures refused { IfErr result (λ fault. fault ≢ PlanFault.OutOfMemory → FollowsBy table.now last.entry (told_by rows.now)
+        → WhereAgreed jobs.now (T.known told.now) (T.seen told.now) settings.now
         (λ at. IsGiven at jobs.now (T.known told.now) (T.seen told.now) rows.now begun.now suspects.now → IsRefusedAt at jobs.now fault)) }
 {
-    match table.states(alloc, rows, before) {
+    match table.standing(alloc, rows, last) {
         Err(_) => Err(PlanFault::OutOfMemory),
-        Ok(states) => plan_by(
-            alloc, jobs, table, told, settings, rows, begun, suspects, states,
-        ),
+        Ok(standing) => {
+            let Standing { states, ranking } = standing;
+            match plan_by(
+                alloc, jobs, table, told, settings, rows, begun, suspects, states,
+            ) {
+                Err(fault) => Err(fault),
+                Ok(plan) => Ok(Stood { plan, ranking }),
+            }
+        }
     }
 }
 
@@ -184,7 +203,7 @@ fn plan_of<T: Told>(
                 forced: basis.judged.forced.as_slice(),
                 running: basis.judged.running.as_slice(),
             };
-            plan_now(
+            match plan_now(
                 alloc,
                 jobs,
                 &basis.table,
@@ -193,8 +212,11 @@ fn plan_of<T: Told>(
                 &rows,
                 basis.begun.as_slice(),
                 basis.suspects.as_slice(),
-                &[],
-            )
+                None,
+            ) {
+                Err(fault) => Err(fault),
+                Ok(stood) => Ok(stood.plan),
+            }
         }
     }
 }

@@ -17,6 +17,7 @@ returns-in-Ok-clause-live g c =
       table = t.kept.table;
       flags = λ served. t.kept.flags;
       readers = t.kept.readers c.requires.sound;
+      standing = t.standing;
       named = c.requires.named;
       commands = λ h. ap (list_all (has_command c.args.settings.cores)) (sym c.as_slice-jobs.ensures) ∙ c.are_seen-commanded.ensures h;
     }

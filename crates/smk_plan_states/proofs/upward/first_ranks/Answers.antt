@@ -1,5 +1,7 @@
 use Rattle.std.proofs.Common.{arith, ap, length, length-append}
+use Rattle.smk_plan_states.specs.Stays.{IsByEarlier, told_by}
 use Rattle.smk_plan_states.proofs.ByRank.{first_step, first_done}
+use Rattle.smk_plan_states.proofs.Steps.{all_lines, first_by_all, first_more}
 use Rattle.smk_plan_states.proofs.upward.first_ranks.Goals as goal
 
 pub loop-number-preserved : goal.loop-number-preserved
@@ -10,9 +12,20 @@ loop-number-preserved c =
           first_step at jobs states c.args.lines.now c.args.origins.now c.args.rows.now c.args.used.now h c.loop-number.number c.index-lines-number.result c.flag_at.result c.first_rank-rank.result
           c.loop-number.ranks.items c.as_slice.result.now c.push.new.self.items c.loop-number-test.true c.index-lines-number.is c.flag_at.ensures c.as_slice.ensures.value c.first_rank-rank.ensures
           c.in_ok-push.ensures.items (c.loop-number.invariant.so_far at jobs states h);
+      told =
+          first_more c.args.lines.now c.args.origins.now (told_by c.args.rows.now) c.args.used.now c.loop-number.number c.index-lines-number.result c.flag_at.result c.first_rank-rank.result
+          c.loop-number.ranks.items c.as_slice.result.now c.push.new.self.items c.loop-number-test.true c.index-lines-number.is c.flag_at.ensures c.as_slice.ensures.value
+          c.first_rank-rank.ensures c.in_ok-push.ensures.items c.loop-number.invariant.each c.loop-number.invariant.told;
     }
 
 pub returns-clause-ranks : goal.returns-clause-ranks
 returns-clause-ranks c = λ at jobs states h.
     first_done at jobs states c.args.lines.now c.args.origins.now c.args.rows.now c.args.used.now h c.loop-number.number c.loop-number.ranks.items (omega (arith, c.loop-number-test.false))
     (c.loop-number.invariant.so_far at jobs states h)
+
+pub returns-clause-told : goal.returns-clause-told
+returns-clause-told c = λ earlier.
+    first_by_all c.args.lines.now c.args.origins.now (told_by c.args.rows.now) c.args.used.now c.loop-number.ranks.items (omega (arith, c.loop-number-test.false, c.loop-number.invariant.each))
+    (all_lines c.args.lines.now (IsByEarlier c.args.origins.now (told_by c.args.rows.now) c.args.used.now c.loop-number.ranks.items) c.loop-number.number (omega (arith, c.loop-number-test.false))
+    c.loop-number.invariant.told)
+    earlier

@@ -32,6 +32,7 @@ returns-in-Ok-clause-live g c =
       table = t.kept.table;
       flags = λ served. t.kept.flags;
       readers = t.kept.readers sound;
+      standing = t.standing;
       named = named;
       commands = λ h. ap (list_all (has_command c.args.self.now.settings.cores)) (sym c.as_slice-jobs.ensures) ∙ c.are_seen-commanded.ensures h;
     }

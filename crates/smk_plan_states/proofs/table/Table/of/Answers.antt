@@ -30,8 +30,9 @@ returns c =
           (λ j i. sym (among_flat (λ (item : Item). item.paths) j.recipe.inputs q));
     } in
     record {
-      lines = c.in_ok-lines_of.ensures J asked ways wants ∙ ap (map (line_of J asked)) c.as_slice-7.ensures;
-      origins = c.in_ok-origins_of.ensures J ways ∙ ap (map (origin_of J.jobs)) c.as_slice-8.ensures;
-      targets = c.in_ok-targets_of.ensures J ways (λ q. c.in_ok-sources.ensures q ∙ ap (list_any (is_told_source J q)) c.as_slice-6.ensures) ∙ ap (map (target_of J)) c.as_slice-9.ensures;
-      awaited = c.in_ok-each_once.ensures ∙ ap (distinct same_path) (c.as_slice-10.ensures ∙ spots);
+      lines = c.in_ok-table.ensures.lines ∙ c.in_ok-lines.ensures J asked ways wants ∙ ap (map (line_of J asked)) c.as_slice-7.ensures;
+      origins = c.in_ok-table.ensures.origins ∙ c.in_ok-origins.ensures J ways ∙ ap (map (origin_of J.jobs)) c.as_slice-8.ensures;
+      targets = c.in_ok-table.ensures.targets ∙ c.in_ok-asked.ensures J ways (λ q. c.in_ok-sources.ensures q ∙ ap (list_any (is_told_source J q)) c.as_slice-6.ensures) ∙ ap (map (target_of J)) c.as_slice-9.ensures;
+      awaited = c.in_ok-table.ensures.awaited ∙ c.in_ok-awaited.ensures ∙ ap (distinct same_path) (c.as_slice-10.ensures ∙ spots);
+      watched = c.in_ok-table.ensures.watched;
     }

@@ -1,0 +1,151 @@
+-- A step of one job: what stays of all others.
+use Rattle.std.specs.Prelude.{◌≡◌, ◌<◌, ℕ, Bool, false, true, ◌==◌, ◌||◌, ◌&&◌, not, if◌then◌else◌, ◌++◌, List, [], map, length, take, Option, Some, None, slice_index_or}
+use Rattle.std.specs.List.{list_any, slice_get}
+use Rattle.smk_world.specs.Trees.{Each}
+use Rattle.smk_trigger.specs.declared.reason.Reason.{Reason}
+use Rattle.smk_trigger.specs.declared.reason.Reason.TheVariants.{Upstream, Forced}
+use Rattle.smk_trigger.specs.declared.reason.State.{State}
+use Rattle.smk_trigger.specs.Reasons.{when}
+use Rattle.smk_plan_states.specs.declared.lines.Gathered.{Gathered}
+use Rattle.smk_plan_states.specs.declared.lines.Input.{Input}
+use Rattle.smk_plan_states.specs.declared.lines.Line.{Line}
+use Rattle.smk_plan_states.specs.declared.lines.Origin.{Origin}
+use Rattle.smk_plan_states.specs.declared.ranks.Rank.{Rank}
+use Rattle.smk_plan_states.specs.declared.ranks.Rank.TheVariants.{Open as AtOpen}
+use Rattle.smk_plan_states.specs.declared.rows.Rows.{Rows}
+use Rattle.smk_plan_states.specs.declared.spots.Spot.{Spot}
+use Rattle.smk_plan_states.specs.Rows.{lent}
+use Rattle.smk_plan_states.specs.Ranks.{by_rank, rank_while_running, state_by}
+use Rattle.smk_plan_states.specs.Spots.{maker_at, spot_at}
+use Rattle.smk_plan_states.specs.Ranking.{dirties_by, is_kept_by, is_link, opens_by, upstream_paths}
+
+-- What is told of jobs at a moment, by their numbers; what Rows lend.
+pub record Told : Type 0 where
+  pub outputs : List (List Bool)
+  pub makers : List Bool
+  pub reasons : List (List Reason)
+  pub forced : List Bool
+  pub running : List (Option State)
+
+abbrev pub told_by : Rows → Told
+told_by rows =
+    record {
+      outputs = lent rows.outputs.now;
+      makers = rows.makers.now;
+      reasons = lent rows.reasons.now;
+      forced = rows.forced.now;
+      running = rows.running.now;
+    }
+
+-- what is told of the path of the link
+abbrev pub spot_told : List Origin → Told → Option ℕ → Option Spot
+spot_told origins rows link = spot_at origins rows.outputs rows.makers link
+
+-- the rank of the first pass
+abbrev pub rank_told : List Rank → List Origin → Told → Line → ℕ → Bool → Rank
+rank_told ranks origins rows line number used =
+    rank_while_running (slice_index_or rows.running number None)
+    (if opens_by ranks (spot_told origins rows) line then AtOpen
+    else by_rank (dirties_by ranks origins (slice_index_or rows.reasons number []) line) (is_kept_by line.outputs (slice_index_or rows.outputs number []) && not used))
+
+-- it holds of the number, where there is one
+abbrev pub OfSome : (ℕ → Type 0) → Option ℕ → Type 0
+OfSome ok None = Unit {0}
+OfSome ok (Some m) = ok m
+
+-- it holds of the jobs that are told to make what the line has
+abbrev pub OfLine : (ℕ → Type 0) → List Origin → Line → Type 0
+OfLine ok origins line = Each (λ (i : Input). OfSome ok (maker_at origins i.link)) line.inputs × Each (λ (g : Gathered). OfSome ok (maker_at origins g.link)) line.gathers
+
+-- the rank of the number is that by the ranks before it
+abbrev pub IsByEarlier : List Origin → Told → List Bool → List Rank → ℕ → Line → Type 0
+IsByEarlier origins rows used ranks n line = slice_get ranks n ≡ Some (rank_told (take n ranks) origins rows line n (slice_index_or used n false))
+
+-- each line has links to earlier jobs alone
+abbrev pub AreEarlier : List Line → List Origin → Type 0
+AreEarlier lines origins = (n : ℕ) (line : Line) → slice_get lines n ≡ Some line → OfLine (λ m. m < n) origins line
+
+-- the ranks of the first pass: each by those of the others
+pub record AreFirst (lines : List Line) (origins : List Origin) (rows : Told) (used : List Bool) (ranks : List Rank) : Type 0 where
+  pub each : (n : ℕ) (line : Line) → slice_get lines n ≡ Some line → slice_get ranks n ≡ Some (rank_told ranks origins rows line n (slice_index_or used n false))
+
+-- the job of the number is told to make the path of the link
+abbrev pub is_made_by : List Origin → ℕ → Option ℕ → Bool
+is_made_by origins job link = is_link job (maker_at origins link)
+
+-- the line has an input or a directory that it gathers from which the job of the number is told to make
+abbrev pub reads_of : List Origin → ℕ → Line → Bool
+reads_of origins job line =
+    list_any (λ (i : Input). is_made_by origins job i.link) line.inputs || list_any (λ (g : Gathered). is_made_by origins job g.link) line.gathers
+
+-- the number is among these
+abbrev pub has_number : ℕ → List ℕ → Bool
+has_number n numbers = list_any (λ m. m == n) numbers
+
+-- Of all jobs but the one of this number the rows tell the same, but for the reasons of these readers.
+pub record AreRowsBut (origins : List Origin) (job : ℕ) (readers : List ℕ) (before now : Told) : Type 0 where
+  pub outputs : (n : ℕ) → (n == job) ≡ false → slice_get now.outputs n ≡ slice_get before.outputs n
+  pub makers :
+      (n : ℕ) (o : Origin) → slice_get origins n ≡ Some o → is_link job o.job ≡ false →
+      slice_index_or now.makers n false ≡ slice_index_or before.makers n false
+  pub reasons :
+      (n : ℕ) → (n == job) ≡ false → has_number n readers ≡ false →
+      slice_get now.reasons n ≡ slice_get before.reasons n
+  pub forced : (n : ℕ) → (n == job) ≡ false → slice_get now.forced n ≡ slice_get before.forced n
+  pub running : (n : ℕ) → (n == job) ≡ false → slice_get now.running n ≡ slice_get before.running n
+
+-- The job of this number, with this line, is another one and no reader; it reads nothing of that job; and whether a child reads of it is as it was.
+pub record IsUntouched (origins : List Origin) (job : ℕ) (readers : List ℕ) (was used : List Bool) (n : ℕ) (line : Line) : Type 0 where
+  pub other : (n == job) ≡ false
+  pub no_reader : has_number n readers ≡ false
+  pub unread : reads_of origins job line ≡ false
+  pub reading : slice_index_or used n false ≡ slice_index_or was n false
+
+-- for each job the numbers of those that read or gather from what it is told to make, and maybe more
+pub record AreWatched (lines : List Line) (origins : List Origin) (watchers : List (List ℕ)) : Type 0 where
+  pub each :
+      (n : ℕ) (line : Line) (job : ℕ) → job < length lines → slice_get lines n ≡ Some line → reads_of origins job line ≡ true →
+      has_number n (slice_index_or watchers job []) ≡ true
+
+-- the state of the job of the number is that of its rank, with its own reasons and the inputs whose job is Dirty
+abbrev pub IsBuiltAt : List Origin → Told → List Rank → List State → ℕ → Line → Type 0
+IsBuiltAt origins rows ranks states n line =
+    (alone : List Reason) →
+    slice_index_or rows.reasons n [] ≡ alone ++ when (slice_index_or rows.forced n false) Forced →
+    slice_get states n
+    ≡ Some
+    (state_by (slice_index_or rows.running n None) (slice_index_or ranks n AtOpen)
+    (alone ++ (map Upstream (upstream_paths ranks origins line.inputs) ++ when (slice_index_or rows.forced n false) Forced)))
+
+-- so are all states
+pub record AreBuilt (lines : List Line) (origins : List Origin) (rows : Told) (ranks : List Rank) (states : List State) : Type 0 where
+  pub each : (n : ℕ) (line : Line) → slice_get lines n ≡ Some line → IsBuiltAt origins rows ranks states n line
+
+-- The number is none of these: that of the job, of its readers and of those that watch it; and whether a child reads of it is as it was.
+pub record IsApart (job : ℕ) (readers watchers : List ℕ) (was used : List Bool) (n : ℕ) : Type 0 where
+  pub other : (n == job) ≡ false
+  pub no_reader : has_number n readers ≡ false
+  pub no_watcher : has_number n watchers ≡ false
+  pub reading : slice_index_or used n false ≡ slice_index_or was n false
+
+-- The ranks have changed at most at the job, and each job that is doubted has the one that it has by them.
+pub record AreAfter
+    (lines : List Line) (origins : List Origin) (rows : Told) (used doubts : List Bool) (job : ℕ) (before ranks : List Rank) : Type 0 where
+  pub within : job < length lines
+  pub each : length ranks ≡ length before
+  pub others : (m : ℕ) → (m == job) ≡ false → slice_get ranks m ≡ slice_get before m
+  pub told :
+      (n : ℕ) (line : Line) → slice_get lines n ≡ Some line → slice_index_or doubts n false ≡ true →
+      slice_get ranks n ≡ Some (rank_told ranks origins rows line n (slice_index_or used n false))
+
+-- The state of the job of this number, with this line, is made anew by these ranks where it is doubted, and else it is as it was.
+pub record IsStateAfter
+    (lines : List Line) (origins : List Origin) (rows : Told) (ranks : List Rank) (doubts : List Bool) (before found : List State) (n : ℕ) (line : Line) : Type 0 where
+  pub anew :
+      slice_index_or doubts n false ≡ true → (alone : List Reason) →
+      slice_index_or rows.reasons n [] ≡ alone ++ when (slice_index_or rows.forced n false) Forced →
+      slice_get found n
+      ≡ Some
+      (state_by (slice_index_or rows.running n None) (slice_index_or ranks n AtOpen)
+      (alone ++ (map Upstream (upstream_paths ranks origins line.inputs) ++ when (slice_index_or rows.forced n false) Forced)))
+  pub stays : slice_index_or doubts n false ≡ false → slice_get found n ≡ slice_get before n
