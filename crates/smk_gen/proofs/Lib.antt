@@ -1,3 +1,4 @@
 mod Numbers
 mod Paths
 mod Placed
+mod PathTexts

@@ -1,0 +1,3 @@
+mod Begun
+mod Opened
+mod Next
