@@ -3,7 +3,7 @@ use Rattle.std.proofs.Common.{◌≡◌, ◌∙◌, ◌<◌, ◌≤◌, ◌+◌,
 use Rattle.std.specs.Prelude.{nat_eq, slice_index_or, if◌then◌else◌, IfOk, Result, Ok, Err}
 use Rattle.std.specs.List.{list_any, slice_get}
 use Rattle.std.specs.Option.{option_and_then}
-use Rattle.smk_world.specs.Trees.{Path, Each, among}
+use Rattle.smk_world.specs.Trees.{Path, Each}
 use Rattle.smk_world.specs.World.{in_paths}
 use Rattle.smk_flow.specs.declared.job.Job.{Job}
 use Rattle.smk_chain.specs.declared.jobs.Jobs.{Jobs}
@@ -28,8 +28,8 @@ use Rattle.smk_plan_states.specs.Lines.{tells_of, link_to, origin_of, inputs_fro
 use Rattle.smk_plan_states.specs.Moment.{IsMoment}
 use Rattle.smk_plan_states.specs.Rows.{lent}
 use Rattle.smk_plan_states.specs.Ranks.{rank_of, rank_at, is_open_rank, is_dirty_rank, is_clean_rank, by_rank, rank_while_running, state_by}
-use Rattle.smk_plan_states.specs.Spots.{origin_at, maker_at, over_flag, spot_of, spot_in}
-use Rattle.smk_plan_states.specs.Ranking.{has_any, reading_opens_by, gathering_opens_by, input_opens, gathered_opens, opens_by, is_upstream, dirties_by, is_kept_by, table_rank, first_rank, is_link, upstream_paths}
+use Rattle.smk_plan_states.specs.Spots.{maker_at, spot_of}
+use Rattle.smk_plan_states.specs.Ranking.{has_any, reading_opens_by, gathering_opens_by, input_opens, gathered_opens, is_upstream, is_kept_by, first_rank, is_link, upstream_paths}
 use Rattle.smk_plan_states.specs.Stays.{Told, told_by, spot_told, rank_told, OfSome, OfLine, IsByEarlier, AreEarlier, IsBuiltAt, AreBuilt, AreFirst, AreRowsBut, IsStateAfter, IsUntouched, has_number, is_made_by, reads_of}
 use Rattle.std.proofs.lemmas.List.{map-append, length-map, take_all, append_cancel_right}
 use Rattle.std.proofs.lemmas.Option.{slice_get-map, get_or_from_slice_get}

@@ -1,4 +1,4 @@
-use Rattle.std.proofs.Common.{◌≡◌, ℕ, Some, arith, ap, length, length-append}
+use Rattle.std.proofs.Common.{arith, ap, length, length-append}
 use Rattle.smk_plan_states.specs.declared.lines.Line.{Line}
 use Rattle.smk_plan_states.specs.Stays.{told_by, IsStateAfter}
 use Rattle.smk_plan_states.proofs.Steps.{all_lines, state_more}

@@ -1,5 +1,4 @@
 use Rattle.std.proofs.Common.{◌∙◌, sym}
-use Rattle.smk_plan_states.specs.declared.ranks.Rank.{Rank}
 use Rattle.smk_plan_states.proofs.Lacking.{none_lacking}
 use Rattle.smk_plan_states.proofs.Steps.{where_ok}
 use Rattle.smk_plan_states.proofs.standing.states_from.Goals as goal

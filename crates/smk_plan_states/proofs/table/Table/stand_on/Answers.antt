@@ -1,8 +1,6 @@
-use Rattle.std.proofs.Common.{◌≡◌, ◌<◌, ◌∙◌, Option, List, false, length, subst, ap}
-use Rattle.std.specs.Prelude.{IfSome}
+use Rattle.std.proofs.Common.{◌∙◌, List, length, subst, ap}
 use Rattle.smk_plan_states.specs.declared.lines.Line.{Line}
 use Rattle.smk_plan_states.specs.declared.lines.Origin.{Origin}
-use Rattle.smk_plan_states.specs.declared.standing.Standing.{Standing}
 use Rattle.smk_plan_states.specs.Standing.{IsStanding}
 use Rattle.smk_plan_states.specs.Stays.{told_by}
 use Rattle.smk_plan_states.proofs.Kept.{some_kept, some_stands, follow_standing, kept_states}
