@@ -7,11 +7,10 @@ use Rattle.smk_base.proofs.Places.{same_place}
 use Rattle.smk_world.specs.declared.event.Node.{Node}
 use Rattle.smk_world.specs.declared.event.Node.TheVariants.{Directory}
 use Rattle.smk_world.specs.declared.event.NodeState.{NodeState}
-use Rattle.smk_world.specs.Folders.{IsTree}
 use Rattle.smk_world.specs.Trees.{Path}
 use Rattle.smk_world.specs.World.{World, Nodes, node_in, firm, firmly, with_folder}
 use Rattle.smk_world_nodes.specs.Nodes.{or_folder}
-use Rattle.smk_world_nodes.specs.Steps.{now_there, replay, step_world, empty_world, formed_told}
+use Rattle.smk_world_nodes.specs.Steps.{now_there, replay, step_world, empty_world}
 use Rattle.smk_world_nodes.specs.declared.step.Step.TheVariants.{Put}
 use Rattle.smk_world_nodes.proofs.Replay.{replay_push}
 use Rattle.smk_world_mem.specs.Work.{IsStepFrom, IsAtRest}
@@ -19,7 +18,6 @@ use Rattle.smk_gen.specs.Files.{source_folder, source_path, source_node, source_
 use Rattle.smk_gen.specs.Made.{HasJust, IsGenerated, put_of, IsAfterPuts, files_put}
 use Rattle.smk_gen.proofs.Numbers.{files_more}
 use Rattle.smk_gen.proofs.Paths.{folder_above, none_above, sources_from, none_later, none_at_folder}
-use Rattle.smk_gen.proofs.PathTexts.{files_are_texts}
 
 -- ## One more file
 
@@ -142,20 +140,15 @@ log_stays w ((p, n) ∷ files) = log_stays (step_world w (Put p n)) files
 
 -- ## The whole
 
-has_just :
-    (seed count : ℕ) → suc count ≤ 2000 → (w : World) → IsAfterPuts (files_put seed (suc count)) w → IsTree w → HasJust (generated_files seed (suc count)) w
-has_just seed count most w after tree = record {
-  texts = files_are_texts seed (suc count) most;
+has_just : (seed count : ℕ) → suc count ≤ 2000 → (w : World) → IsAfterPuts (files_put seed (suc count)) w → HasJust (generated_files seed (suc count)) w
+has_just seed count most w after = record {
   nodes = λ q. ap (λ (v : World). v.nodes q) after ∙ stands seed count most q;
-  formed = formed_told true (map put_of (files_put seed (suc count))) w (ap Some (sym after));
-  tree = tree;
   children = ap (λ (v : World). v.children) after ∙ children_stay empty_world (files_put seed (suc count));
   log = ap (λ (v : World). v.log) after ∙ log_stays empty_world (files_put seed (suc count));
 }
 
 -- a world that is told after all was put is that of the files
 pub generated : (seed size : ℕ) → 1 ≤ size → size ≤ 2000 → (told : Option World) →
-    ((w : World) → told ≡ Some w → IsAfterPuts (files_put seed size) w) → ((w : World) → told ≡ Some w → IsTree w) → IsAtRest told →
-    IsGenerated seed size told
-generated seed zero least most told after tree (w, is, none) = absurd (omega (arith, least))
-generated seed (suc count) least most told after tree (w, is, none) = (w, is, has_just seed count most w (after w is) (tree w is))
+    ((w : World) → told ≡ Some w → IsAfterPuts (files_put seed size) w) → IsAtRest told → IsGenerated seed size told
+generated seed zero least most told after (w, is, none) = absurd (omega (arith, least))
+generated seed (suc count) least most told after (w, is, none) = (w, is, has_just seed count most w (after w is))

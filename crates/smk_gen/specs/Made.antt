@@ -1,25 +1,17 @@
 -- The workspace in which the files stand.
-use Rattle.std.specs.Prelude.{◌≡◌, ℕ, true, [], ◌∷◌, ◌++◌, map, Option, Some, None}
+use Rattle.std.specs.Prelude.{◌≡◌, ℕ, [], ◌∷◌, ◌++◌, map, Option, Some, None}
 use Rattle.smk_world.specs.declared.event.Node.{Node}
-use Rattle.smk_world.specs.Folders.{IsTree}
-use Rattle.smk_world.specs.Trees.{Path, Each, is_path_text}
-use Rattle.smk_world.specs.World.{World, Nodes, IsFormed, node_in, firmly}
+use Rattle.smk_world.specs.Trees.{Path}
+use Rattle.smk_world.specs.World.{World, Nodes, node_in, firmly}
 use Rattle.smk_world_mem.specs.declared.work.Setup.{Setup}
 use Rattle.smk_world_nodes.specs.Steps.{replay, empty_world}
 use Rattle.smk_world_nodes.specs.declared.step.Step.{Step}
 use Rattle.smk_world_nodes.specs.declared.step.Step.TheVariants.{Put}
 use Rattle.smk_gen.specs.Files.{snakefile_path, snakefile_node, source_files, generated_files}
 
--- its path is a text
-abbrev pub IsAtText : Path × Node → Type 0
-IsAtText file = is_path_text file.0 ≡ true
-
--- Just these files stand in the folder, firmly, each at a path that is a text, and in folders as on a disk; no child runs there, and nothing has happened.
+-- Just these files stand in the folder, firmly; no child runs there, and nothing has happened.
 pub record HasJust (files : Nodes) (w : World) : Type 0 where
-  pub texts : Each IsAtText files
   pub nodes : (q : Path) → w.nodes q ≡ firmly (node_in files q)
-  pub formed : IsFormed w
-  pub tree : IsTree w
   pub children : w.children ≡ []
   pub log : w.log ≡ []
 

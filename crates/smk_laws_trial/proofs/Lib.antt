@@ -1,3 +1,0 @@
-mod Begun
-mod Opened
-mod Next
