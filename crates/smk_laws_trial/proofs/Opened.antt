@@ -24,6 +24,7 @@ use Rattle.smk_eval.specs.Faults as load
 use Rattle.smk_eval.specs.Faults.{from_files}
 use Rattle.smk_eval.specs.Loading.{config_at, config_file, config_files, config_in, config_path, configs, loaded, said_by, said_in, with_config, with_sets}
 use Rattle.smk_config.specs.Settings.{over}
+use Rattle.smk_laws_keys.proofs.Kept.{each_append}
 use Rattle.smk_laws_complete.specs.Loaded.{files_read, paths_of}
 
 -- ## Results
@@ -45,10 +46,6 @@ load_ok (Err f) next b h = absurd (err_ok f b h)
 read_ok : {A : Type 0} (r : Result A FileFault) (a : A) → from_files r ≡ Ok a → r ≡ Ok a
 read_ok (Ok x) a h = ap Ok (ok_same x a h)
 read_ok (Err f) a h = absurd (err_ok _ a h)
-
-each_both : {A : Type 0} (P : A → Type 0) (xs ys : List A) → Each P xs → Each P ys → Each P (xs ++ ys)
-each_both P [] ys all more = more
-each_both P (x ∷ xs) ys (one, all) more = (one, each_both P xs ys all more)
 
 each_weaker : {A : Type 0} (P Q : A → Type 0) → ((x : A) → P x → Q x) → (xs : List A) → Each P xs → Each Q xs
 each_weaker P Q weaker [] all = tt
@@ -132,7 +129,7 @@ module _ (nodes : Nodes) where
       let files : files_at nodes file ≡ Ok fs = read_ok (files_at nodes file) fs said.1 in
       let config = load_ok (configs nodes no_members (config_files (whole fs))) (λ m. said_in (with_sets m sets) fs) flow said.2 in
       subst (λ r. Each IsFileAt (paths_of r)) (sym files)
-      (each_both IsFileAt (names fs) (config_files (whole fs)) (files_open 17 file fs files)
+      (each_append IsFileAt (names fs) (config_files (whole fs)) (files_open 17 file fs files)
       (configs_open no_members (config_files (whole fs)) config.0 config.1))
 
 -- So each file that is read has what each file has.

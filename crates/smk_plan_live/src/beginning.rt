@@ -142,9 +142,9 @@ fn start_of(
 impl LivePlan {
     /// The job has begun: its child runs, with the state that the job has. From now on its outputs are marked, and nothing stands at them.
     ///
-    /// Facts and reasons are told anew of it and of the jobs that read what it makes, and what is whole is told anew of it alone. The plan is told anew of all jobs, by
-    /// the numbers and flags that are kept, so the time is linear in the jobs and what they read and make, with no look-up by path but for those few jobs. No judge
-    /// is asked but the plain one.
+    /// Facts and reasons are told anew of it and of the jobs that read what it makes, and what is whole is told anew of it alone. States are told anew of these jobs, and of all
+    /// where another job's rank changes or a Clean job lacks an output. The flags of all jobs are gone over, so the time is linear in the jobs and what they read and
+    /// make, with no look-up by path but for those few jobs. No judge is asked but the plain one.
     ///
     /// The faults are those of a plan of that moment: the first thing that is refused of it. `OutOfMemory` where there is no memory for all this, or the job has no
     /// output to be named by. After any of them nothing is changed.

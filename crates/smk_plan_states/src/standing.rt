@@ -128,7 +128,7 @@ struct After {
     states: List<State>,
 }
 
-// The ranks and states after the step of the job, which these watch, where no rank of the first pass changes but maybe that of the job; None where one may.
+// The ranks and states after the step of the job, where no rank of the first pass changes but maybe that of the job, and no job that is Clean lacks an output; else None.
 fn go_on(
     alloc: Global,
     lines: &[Line],
