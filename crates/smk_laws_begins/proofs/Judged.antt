@@ -5,7 +5,7 @@ use Rattle.smk_plan_facts.proofs.FactsTold.{facts_so}
 use Rattle.smk_plan_facts.proofs.WholesTold.{wholes_so}
 use Rattle.smk_plan_states.specs.Judged.{any_held_back}
 use Rattle.smk_plan_live.proofs.Judging.{wholes_are}
-use Rattle.smk_plan_live.specs.declared.live.LivePlan.{LivePlan}
+use Rattle.smk_plan_live.specs.Live.{LivePlan}
 use Rattle.smk_plan_live.specs.Lives.{progress_of as kept_progress}
 use Rattle.smk_drive.specs.Moments.{Moment, Rules, progress_of, seen}
 use Rattle.smk_laws_begins.specs.Picked.{JudgedAsKept}
@@ -23,6 +23,7 @@ judged_as_kept rules m live wholes alive settings progress agrees whole = (
     progress = progress;
     served = agrees.served;
     each = alive.each;
+    ranks = alive.ranked (seen rules m.world) agrees;
     whole = wholes_are facts_so wholes_so live.base live.settings (seen rules m.world) agrees wholes whole;
   },
   (alive.now (seen rules m.world) agrees).back

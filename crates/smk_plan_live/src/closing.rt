@@ -43,7 +43,7 @@ impl LivePlan {
     /// The job is closed: it was finished or abandoned, and these are now what is known and what is seen of its outputs, one for each output, in their order.
     ///
     /// The judge is asked once about the closed job and once about each job that reads at or under an output of it, and about no other. What is whole is told anew of
-    /// the closed job alone. States are told anew of these jobs, and of all where another job's rank changes or a Clean job lacks an output. The flags of all jobs are
+    /// the closed job alone. Ranks are told anew of these jobs, and of all where another job's rank changes or a Clean job lacks an output. The flags of all jobs are
     /// gone over, so the time is linear in the jobs and what they read and make, with no look-up by path but for those few jobs.
     ///
     /// A source that these entries have with a SHA-256 and another time than it was seen with counts as updated until a sight with its digest comes.

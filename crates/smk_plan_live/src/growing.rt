@@ -75,12 +75,7 @@ impl LivePlan {
                 Err(fault)
             }
             Ok(told) => {
-                let Told {
-                    kept,
-                    plan,
-                    ranking,
-                    held,
-                } = told;
+                let Told { kept, ranked, held } = told;
                 let Kept {
                     facts,
                     reasons,
@@ -89,13 +84,14 @@ impl LivePlan {
                     readers,
                 } = kept;
                 let jobs = next.jobs.jobs.as_slice();
-                let states = plan.states.as_slice();
-                let commanded = are_seen(alloc, self.settings.cores, jobs, states);
+                let ranks = ranked.ranking.ranks();
+                let commanded = are_seen(alloc, self.settings.cores, jobs, ranks);
                 self.base = next;
                 self.facts = facts;
                 self.reasons = reasons;
-                self.plan = plan;
-                self.ranking = ranking;
+                self.ranking = ranked.ranking;
+                self.current = ranked.current;
+                self.known = ranked.known;
                 self.held = held;
                 self.table = table;
                 self.flags = flags;

@@ -138,7 +138,7 @@ impl LivePlan {
     /// The output was removed: nothing stands at it, or under it, from now on; what is known of it stays. Where the path is no output of the jobs nothing is
     /// changed.
     ///
-    /// Facts and reasons are told anew of its job and of the jobs that read at or under the job's outputs, and what is whole is told anew of its job alone. States
+    /// Facts and reasons are told anew of its job and of the jobs that read at or under the job's outputs, and what is whole is told anew of its job alone. Ranks
     /// are told anew of these jobs, and of all where another job's rank changes or a Clean job lacks an output. The flags of all jobs are gone over, so the time is linear
     /// in the jobs and what they read and make, with no look-up by path but for those few jobs. No judge is asked but the plain one.
     ///

@@ -1,5 +1,4 @@
 use Rattle.std.proofs.Common.{◌≡◌, Some, sym, ap, ◌∙◌}
-use Rattle.std.specs.List.{slice_get}
 use Rattle.std.proofs.lemmas.Option.{same_Some, slice_get_within}
 use Rattle.std.proofs.lemmas.Result.{IfErr-weaker}
 use Rattle.smk_plan_live.specs.declared.phase.Phase.TheVariants.{Running}
@@ -31,7 +30,7 @@ returns-in-Ok-clause-refused c =
     let s = c.in-Ok.start in
     IfErr-weaker c.advance.result _ _
     (λ fault told. λ other state had j at.
-    let its : s.state ≡ state = same_Some s.state state (sym x.had ∙ ap (λ xs. slice_get xs n) c.as_slice.ensures ∙ had) in
+    let its : s.state ≡ state = same_Some s.state state (sym x.had ∙ had) in
     let it : x.job ≡ j = same_Some x.job j (sym x.is ∙ at) in
     let entries = x.entries ∙ ap (begun_entries p.base) it in
     let sights = x.sights ∙ ap gone_sights it in
