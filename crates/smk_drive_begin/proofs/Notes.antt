@@ -21,7 +21,7 @@ use Rattle.smk_job.specs.Starts.{HasStarted, begun_child}
 use Rattle.smk_run.specs.Reports.{HasReported}
 use Rattle.smk_run.specs.Runs.{is_output}
 use Rattle.smk_plan_live.specs.declared.base.Base.{Base}
-use Rattle.smk_plan_live.specs.declared.live.LivePlan.{LivePlan}
+use Rattle.smk_plan_live.specs.Live.{LivePlan}
 use Rattle.smk_plan_live.specs.Carried.{begun}
 use Rattle.smk_plan_live.specs.Changes.{HasBegun, IsRefusedBegun}
 use Rattle.smk_plan_live.specs.Lives.{IsLive, IsRefusedNow}

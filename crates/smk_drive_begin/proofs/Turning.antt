@@ -10,7 +10,7 @@ use Rattle.smk_flow.specs.Flows.{Flow}
 use Rattle.smk_pick.specs.declared.settings.Settings.{Settings}
 use Rattle.smk_chain.specs.declared.jobs.Jobs.{Jobs}
 use Rattle.std.specs.List.{slice_get}
-use Rattle.smk_plan_live.specs.declared.live.LivePlan.{LivePlan}
+use Rattle.smk_plan_live.specs.Live.{LivePlan}
 use Rattle.smk_report.specs.declared.fault.Fault.{Fault}
 use Rattle.smk_report.specs.declared.fault.Fault.TheVariants as fault
 use Rattle.smk_run.specs.Reports.{HasReported}

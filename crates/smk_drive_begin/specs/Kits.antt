@@ -23,7 +23,7 @@ use Rattle.smk_run.specs.Reports.{HasReported}
 use Rattle.smk_run.specs.Runs.{is_output}
 use Rattle.smk_drive.specs.Lawful.{ask_of}
 use Rattle.smk_drive.specs.Reports.{named_job}
-use Rattle.smk_plan_live.specs.declared.live.LivePlan.{LivePlan}
+use Rattle.smk_plan_live.specs.Live.{LivePlan}
 use Rattle.smk_drive_step.specs.declared.children.Child.{Child}
 use Rattle.smk_drive_step.specs.Crews.{IsPutFor}
 use Rattle.smk_drive_step.specs.Stamping.{AreStampsFor}

@@ -10,7 +10,7 @@ use Rattle.smk_flow.specs.declared.job.Job.{Job}
 use Rattle.smk_flow.specs.Flows.{Flow, rule_name}
 use Rattle.smk_store.proofs.Seeing.{dropped}
 use Rattle.smk_plan.specs.States.{job_path}
-use Rattle.smk_plan_live.specs.declared.live.LivePlan.{LivePlan}
+use Rattle.smk_plan_live.specs.Live.{LivePlan}
 use Rattle.smk_report.specs.Lines.{done_line}
 use Rattle.smk_drive.specs.Reports.{named_job}
 use Rattle.smk_drive_step.specs.declared.children.Child.{Child}

@@ -9,7 +9,7 @@ use Rattle.smk_plan.specs.declared.fault.PlanFault.TheVariants as refused
 use Rattle.smk_plan.specs.declared.seen.Sight.{Sight}
 use Rattle.smk_plan_table.specs.Plans.{fault_in}
 use Rattle.smk_plan_live.specs.Changes.{HasGrown, IsRefusedGrown}
-use Rattle.smk_plan_live.specs.declared.live.LivePlan.{LivePlan}
+use Rattle.smk_plan_live.specs.Live.{LivePlan}
 use Rattle.smk_report.specs.declared.fault.Fault.{Fault}
 use Rattle.smk_report.specs.declared.fault.Fault.TheVariants as fault
 use Rattle.smk_drive_step.specs.declared.children.Child.{Child}

@@ -29,7 +29,7 @@ use Rattle.smk_plan_preview.proofs.Rounded.{check_quiet, checked_told, planned_t
 use Rattle.smk_plan_preview.proofs.Chains.{last_round, leads_next, round_refused}
 use Rattle.smk_plan_preview.proofs.LookedAt.{err_is}
 use Rattle.smk_plan_live.specs.declared.base.Base.{Base}
-use Rattle.smk_plan_live.specs.declared.live.LivePlan.{LivePlan}
+use Rattle.smk_plan_live.specs.Live.{LivePlan}
 use Rattle.smk_plan_live.specs.declared.phase.Phase.TheVariants.{Waiting}
 use Rattle.smk_plan_live.specs.Changes.{IsFirst}
 use Rattle.smk_plan_live.specs.Lives.{IsLive, IsAgreed, progress_of}

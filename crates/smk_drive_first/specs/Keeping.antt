@@ -14,7 +14,7 @@ use Rattle.smk_plan_preview.specs.Faults.{is_told}
 use Rattle.smk_plan_preview.specs.Previewing.{rules_for}
 use Rattle.smk_plan_preview.specs.Rounds.{IsRound, IsLast}
 use Rattle.smk_plan_preview.specs.Steps.{Plans}
-use Rattle.smk_plan_live.specs.declared.live.LivePlan.{LivePlan}
+use Rattle.smk_plan_live.specs.Live.{LivePlan}
 use Rattle.smk_plan_live.specs.Lives.{IsLive, IsAgreed, progress_of}
 
 -- the plan that is kept

@@ -23,7 +23,7 @@ use Rattle.smk_keep.specs.declared.fault.KeepFault.TheVariants.{Device as Device
 use Rattle.smk_report.specs.declared.fault.Fault.{Fault}
 use Rattle.smk_report.specs.declared.fault.Fault.TheVariants as fault
 use Rattle.smk_drive.specs.Moments.{Rules, seen}
-use Rattle.smk_plan_live.specs.declared.live.LivePlan.{LivePlan}
+use Rattle.smk_plan_live.specs.Live.{LivePlan}
 use Rattle.smk_plan_preview.specs.Faults.{device_failed}
 use Rattle.smk_plan_live.specs.Lives.{IsAgreed}
 use Rattle.smk_drive_course.specs.Driven.{IsOpening}

@@ -4,7 +4,7 @@ use Rattle.std.specs.List.{list_all}
 use Rattle.smk_pick.specs.declared.settings.Settings.{Settings}
 use Rattle.smk_pick.specs.Shares.{Holds}
 use Rattle.smk_report.specs.declared.fault.Fault.{Fault}
-use Rattle.smk_plan_live.specs.declared.live.LivePlan.{LivePlan}
+use Rattle.smk_plan_live.specs.Live.{LivePlan}
 use Rattle.smk_laws_turns.specs.Hubs.{Parts}
 use Rattle.smk_laws_turns.specs.Turning.{faulted}
 use Rattle.smk_drive_hub.specs.declared.hub.Hub.{Hub}

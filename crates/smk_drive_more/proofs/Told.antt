@@ -23,7 +23,7 @@ use Rattle.smk_plan.specs.Sights.{IsSeenAs}
 use Rattle.smk_plan.specs.Summed.{IsSummed}
 use Rattle.smk_plan_facts.specs.Facts.{told_sources}
 use Rattle.smk_plan_look.specs.Seeing.{AreSeenUnowned, AreSummedUnowned}
-use Rattle.smk_plan_live.specs.declared.live.LivePlan.{LivePlan}
+use Rattle.smk_plan_live.specs.Live.{LivePlan}
 use Rattle.smk_plan_preview.specs.Rounds.{AreReady, HasTooMany, IsRefusedFirst}
 use Rattle.smk_plan_preview.proofs.LookedAt.{IsSameFolder, seen_moved}
 use Rattle.smk_report.specs.declared.fault.Fault.{Fault}

@@ -12,7 +12,7 @@ use Rattle.smk_plan_facts.specs.Facts.{told_sources}
 use Rattle.smk_plan_look.specs.Seeing.{AreSeenUnowned, AreSummedUnowned}
 use Rattle.smk_plan_preview.specs.Faults.{is_told}
 use Rattle.smk_plan_preview.specs.Rounds.{AreReady, HasTooMany, IsRefusedFirst}
-use Rattle.smk_plan_live.specs.declared.live.LivePlan.{LivePlan}
+use Rattle.smk_plan_live.specs.Live.{LivePlan}
 use Rattle.smk_report.specs.declared.fault.Fault.{Fault}
 use Rattle.smk_laws_turns.specs.Growing.{IsMoreOf, IsMoreRefusal}
 use Rattle.smk_drive_more.specs.declared.looking.More.{More}

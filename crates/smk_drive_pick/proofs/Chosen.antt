@@ -11,7 +11,7 @@ use Rattle.smk_trigger.specs.declared.reason.State.{State}
 use Rattle.smk_plan.specs.States.{staged}
 use Rattle.smk_plan_states.specs.Judged.{Judging}
 use Rattle.smk_drive.specs.Lawful.{ask_of, first_of}
-use Rattle.smk_plan_live.specs.declared.live.LivePlan.{LivePlan}
+use Rattle.smk_plan_live.specs.Live.{LivePlan}
 use Rattle.smk_plan_live.specs.Lives.{IsLive}
 use Rattle.smk_drive_pick.specs.declared.next.Best.{Best}
 use Rattle.smk_drive_pick.specs.declared.next.Ground.{Ground}

@@ -20,7 +20,7 @@ use Rattle.smk_plan_states.specs.Judged.{Judging, began, with_states}
 use Rattle.smk_plan_states.specs.Lines.{line_of}
 use Rattle.smk_plan_states.specs.Served.{AreServed}
 use Rattle.smk_plan_states.specs.Tables.{IsTableAt, IsTableOf}
-use Rattle.smk_plan_live.specs.declared.live.LivePlan.{LivePlan}
+use Rattle.smk_plan_live.specs.Live.{LivePlan}
 use Rattle.smk_plan_live.specs.declared.phase.Phase.{Phase}
 use Rattle.smk_plan_live.specs.Lives.{IsLive, progress_of}
 use Rattle.smk_plan_live.specs.Now.{known_now, seen_now}

@@ -16,7 +16,7 @@ use Rattle.smk_plan_states.specs.declared.lines.Line.{Line}
 use Rattle.smk_plan_states.specs.Judged.{Judging, any_held_back}
 use Rattle.smk_plan_states.specs.Lines.{feeds, line_of, origin_of, temp_of}
 use Rattle.smk_plan_states.specs.Tables.{IsTableOf}
-use Rattle.smk_plan_live.specs.declared.live.LivePlan.{LivePlan}
+use Rattle.smk_plan_live.specs.Live.{LivePlan}
 use Rattle.smk_laws_plan.proofs.CurrentLists.{In, and_left, and_right, any_none, clash_of, zip_first}
 use Rattle.smk_laws_plan.proofs.CurrentPaths.{in_among}
 use Rattle.smk_laws_plan.proofs.CurrentRecipes.{flat_same}

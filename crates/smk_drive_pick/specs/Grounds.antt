@@ -10,7 +10,7 @@ use Rattle.smk_plan.specs.States.{is_read_now, test_some}
 use Rattle.smk_plan_states.specs.Judged.{Judging, began, with_states}
 use Rattle.smk_plan_states.specs.Tables.{IsTableAt}
 use Rattle.smk_drive.specs.Lawful.{ask_of}
-use Rattle.smk_plan_live.specs.declared.live.LivePlan.{LivePlan}
+use Rattle.smk_plan_live.specs.Live.{LivePlan}
 use Rattle.smk_plan_live.specs.Phases.{has_begun}
 use Rattle.smk_drive_pick.specs.declared.next.Ground.{Ground}
 use Rattle.smk_drive_pick.specs.Told.{is_missing, lacks_some}

@@ -15,7 +15,7 @@ use Rattle.smk_plan.specs.States.{Plan, Progress, is_startable, is_read_now, sta
 use Rattle.smk_plan_states.specs.Judged.{Judging}
 use Rattle.smk_plan_states.specs.Served.{AreServed}
 use Rattle.smk_drive.specs.Lawful.{ask_of, first_of}
-use Rattle.smk_plan_live.specs.declared.live.LivePlan.{LivePlan}
+use Rattle.smk_plan_live.specs.Live.{LivePlan}
 use Rattle.smk_plan_live.specs.Lives.{AreWhole, progress_of}
 
 -- the plan that is kept

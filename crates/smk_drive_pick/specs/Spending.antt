@@ -22,7 +22,7 @@ use Rattle.smk_plan_states.specs.declared.lines.Input.{Input}
 use Rattle.smk_plan_states.specs.declared.lines.Line.{Line}
 use Rattle.smk_plan_states.specs.declared.lines.Temp.{Temp}
 use Rattle.smk_plan_states.specs.Judged.{Judging, any_held_back}
-use Rattle.smk_plan_live.specs.declared.live.LivePlan.{LivePlan}
+use Rattle.smk_plan_live.specs.Live.{LivePlan}
 use Rattle.smk_plan_live.specs.Lives.{AreWhole, IsLive}
 use Rattle.smk_plan_live.specs.Now.{known_now, seen_now}
 use Rattle.smk_drive_pick.specs.Told.{has_flag}

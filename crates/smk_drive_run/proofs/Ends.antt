@@ -8,7 +8,7 @@ use Rattle.smk_report.specs.declared.fault.Fault.TheVariants as fault
 use Rattle.smk_run.specs.declared.tally.Tally.{Tally}
 use Rattle.smk_run.specs.Reports.{HasReported, IsReport}
 use Rattle.smk_run.specs.Runs.{is_output}
-use Rattle.smk_plan_live.specs.declared.live.LivePlan.{LivePlan}
+use Rattle.smk_plan_live.specs.Live.{LivePlan}
 use Rattle.smk_laws_turns.specs.Hubs.{Parts}
 use Rattle.smk_laws_begins.specs.Ended.{IsAllMade}
 use Rattle.smk_laws_begins.specs.Whole.{HasConcluded}

@@ -9,7 +9,7 @@ use Rattle.smk_pick.specs.declared.settings.Settings.{Settings}
 use Rattle.smk_report.specs.declared.fault.Fault.{Fault}
 use Rattle.smk_report.specs.Lines.{Text, summary_line}
 use Rattle.smk_run.specs.declared.tally.Tally.{Tally}
-use Rattle.smk_plan_live.specs.declared.live.LivePlan.{LivePlan}
+use Rattle.smk_plan_live.specs.Live.{LivePlan}
 use Rattle.smk_drive_course.specs.declared.ending.End.{End}
 use Rattle.smk_drive_course.specs.Reports.{target_lines}
 use Rattle.smk_drive_first.specs.declared.opening.Opened.{Opened}

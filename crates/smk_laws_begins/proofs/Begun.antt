@@ -18,7 +18,7 @@ use Rattle.smk_pick.specs.Shares.{Holds}
 use Rattle.smk_plan.specs.States.{IsPlan, LastPlan, Progress, new_listings, nothing_done}
 use Rattle.smk_job.specs.Jobs.{Underway}
 use Rattle.smk_run.specs.declared.tally.Tally.{Tally}
-use Rattle.smk_plan_live.specs.declared.live.LivePlan.{LivePlan}
+use Rattle.smk_plan_live.specs.Live.{LivePlan}
 use Rattle.smk_plan_live.specs.Lives.{IsAgreed, progress_of}
 use Rattle.smk_drive.specs.Moments.{Rules, greatest, seen}
 use Rattle.smk_drive.specs.Moments as moments

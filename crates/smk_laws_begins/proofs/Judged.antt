@@ -5,7 +5,7 @@ use Rattle.smk_plan_facts.proofs.FactsTold.{facts_so}
 use Rattle.smk_plan_facts.proofs.WholesTold.{wholes_so}
 use Rattle.smk_plan_states.specs.Judged.{any_held_back}
 use Rattle.smk_plan_live.proofs.Judging.{wholes_are}
-use Rattle.smk_plan_live.specs.declared.live.LivePlan.{LivePlan}
+use Rattle.smk_plan_live.specs.Live.{LivePlan}
 use Rattle.smk_plan_live.specs.Lives.{progress_of as kept_progress}
 use Rattle.smk_drive.specs.Moments.{Moment, Rules, progress_of, seen}
 use Rattle.smk_laws_begins.specs.Picked.{JudgedAsKept}

@@ -10,7 +10,7 @@ use Rattle.smk_world.specs.World.{World, after, run}
 use Rattle.smk_flow.specs.Flows.{Flow}
 use Rattle.smk_pick.specs.declared.settings.Settings.{Settings}
 use Rattle.smk_plan_live.specs.declared.base.Base.{Base}
-use Rattle.smk_plan_live.specs.declared.live.LivePlan.{LivePlan}
+use Rattle.smk_plan_live.specs.Live.{LivePlan}
 use Rattle.smk_plan_live.specs.Carried.{spent}
 use Rattle.smk_plan_live.specs.Lives.{IsAgreed, IsLive}
 use Rattle.smk_plan_live.specs.Lives as lives

@@ -22,7 +22,7 @@ use Rattle.smk_trigger.specs.declared.reason.State.{State}
 use Rattle.smk_plan.specs.Sights.{IsSeenAs, members_seen}
 use Rattle.smk_plan.specs.States.{Plan, is_spent, none_or_one, staged, test_some}
 use Rattle.smk_plan_facts.specs.Telling.{kept_of}
-use Rattle.smk_plan_live.specs.declared.live.LivePlan.{LivePlan}
+use Rattle.smk_plan_live.specs.Live.{LivePlan}
 use Rattle.smk_plan_live.specs.Now.{known_now, seen_now}
 use Rattle.smk_drive.specs.Moments.{Rules, Moment, progress_of, seen}
 use Rattle.smk_drive.specs.Lawful.{fit_together, running_jobs}

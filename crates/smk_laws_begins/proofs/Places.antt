@@ -9,7 +9,7 @@ use Rattle.std.proofs.lemmas.List.Sorted.{IsPermutation-append_comm, IsPermutati
 use Rattle.std.proofs.lemmas.Option.{same_Some}
 use Rattle.smk_world.specs.Trees.{IsIn}
 use Rattle.smk_laws_protocol.proofs.Basics.{in_rest, in_split}
-use Rattle.smk_plan_live.specs.declared.live.LivePlan.{LivePlan}
+use Rattle.smk_plan_live.specs.Live.{LivePlan}
 use Rattle.smk_plan_live.specs.declared.phase.Phase.TheVariants.{Running, Waiting}
 use Rattle.smk_plan_live.proofs.Changed.{get_other}
 use Rattle.smk_drive_step.specs.declared.children.Child.{Child}

@@ -19,7 +19,7 @@ use Rattle.smk_pick.specs.declared.settings.Settings.{Settings}
 use Rattle.smk_plan.specs.Sights.{IsSeenAs}
 use Rattle.smk_plan_facts.specs.Telling.{kept_of}
 use Rattle.smk_plan_live.specs.declared.base.Base.{Base}
-use Rattle.smk_plan_live.specs.declared.live.LivePlan.{LivePlan}
+use Rattle.smk_plan_live.specs.Live.{LivePlan}
 use Rattle.smk_plan_live.specs.Carried.{spent}
 use Rattle.smk_plan_live.specs.Lives.{IsAgreed}
 use Rattle.smk_plan_live.specs.Lives as lives

@@ -18,7 +18,7 @@ use Rattle.smk_plan_facts.specs.Telling.{kept_of}
 use Rattle.smk_report.specs.declared.fault.Fault.{Fault}
 use Rattle.smk_report.specs.declared.fault.Fault.TheVariants as fault
 use Rattle.smk_plan_live.specs.declared.base.Base.{Base}
-use Rattle.smk_plan_live.specs.declared.live.LivePlan.{LivePlan}
+use Rattle.smk_plan_live.specs.Live.{LivePlan}
 use Rattle.smk_plan_live.specs.declared.sites.Site.{Site}
 use Rattle.smk_plan_live.specs.Now.{entry_now, if_site, is_left, known_now, output_entry, restored_now, settled}
 use Rattle.smk_plan_live.proofs.Tables.{known_is}

@@ -20,7 +20,7 @@ use Rattle.smk_report.specs.declared.fault.Fault.{Fault}
 use Rattle.smk_report.specs.declared.fault.Fault.TheVariants as fault
 use Rattle.smk_format.specs.Refused.{command_of}
 use Rattle.smk_drive.specs.Lawful.{ask_of}
-use Rattle.smk_plan_live.specs.declared.live.LivePlan.{LivePlan}
+use Rattle.smk_plan_live.specs.Live.{LivePlan}
 use Rattle.smk_plan_live.specs.declared.phase.Phase.TheVariants.{Waiting}
 use Rattle.smk_plan_live.specs.Lives.{AreWhole}
 use Rattle.smk_plan_live.specs.Now.{output_entry}

@@ -14,7 +14,7 @@ use Rattle.smk_report.specs.declared.fault.Fault.TheVariants as fault
 use Rattle.smk_job.specs.Jobs.{Underway}
 use Rattle.smk_job.specs.declared.fault.BeginFault.{BeginFault}
 use Rattle.smk_job.specs.declared.fault.BeginFault.TheVariants.{TooLong, Device, OutOfMemory}
-use Rattle.smk_plan_live.specs.declared.live.LivePlan.{LivePlan}
+use Rattle.smk_plan_live.specs.Live.{LivePlan}
 use Rattle.smk_plan_live.specs.Carried.{begun}
 use Rattle.smk_plan_live.specs.Lives.{IsLive}
 use Rattle.smk_drive_step.specs.declared.children.Child.{Child}

@@ -9,7 +9,7 @@ use Rattle.smk_flow.specs.Flows.{Flow}
 use Rattle.smk_store.specs.Images.{is_source}
 use Rattle.smk_pick.specs.declared.settings.Settings.{Settings}
 use Rattle.smk_plan_facts.specs.Facts.{told_sources}
-use Rattle.smk_plan_live.specs.declared.live.LivePlan.{LivePlan}
+use Rattle.smk_plan_live.specs.Live.{LivePlan}
 use Rattle.smk_drive.specs.Moments.{Rules, seen}
 use Rattle.smk_drive_course.specs.Stands.{first_stand}
 use Rattle.smk_drive_course.specs.Driven.{IsOpening}

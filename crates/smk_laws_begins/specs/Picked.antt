@@ -7,7 +7,7 @@ use Rattle.smk_plan.specs.declared.wholes.Wholes.{Wholes}
 use Rattle.smk_plan.specs.Sights.{IsSeenAs}
 use Rattle.smk_plan_facts.specs.Telling.{kept_of}
 use Rattle.smk_plan_states.specs.Judged.{Judging, any_held_back}
-use Rattle.smk_plan_live.specs.declared.live.LivePlan.{LivePlan}
+use Rattle.smk_plan_live.specs.Live.{LivePlan}
 use Rattle.smk_plan_live.specs.Lives.{AreWhole, IsAgreed, IsLive}
 use Rattle.smk_plan_live.specs.Lives.{progress_of as kept_progress}
 use Rattle.smk_plan_live.specs.Now.{known_now, seen_now}

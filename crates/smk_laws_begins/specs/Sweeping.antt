@@ -10,7 +10,7 @@ use Rattle.smk_world.specs.World.{World, run}
 use Rattle.smk_flow.specs.Flows.{Flow}
 use Rattle.smk_pick.specs.declared.settings.Settings.{Settings}
 use Rattle.smk_plan.specs.declared.wholes.Wholes.{Wholes}
-use Rattle.smk_plan_live.specs.declared.live.LivePlan.{LivePlan}
+use Rattle.smk_plan_live.specs.Live.{LivePlan}
 use Rattle.smk_plan_live.specs.Carried.{spent}
 use Rattle.smk_plan_live.specs.Lives.{AreWhole, IsLive}
 use Rattle.smk_report.specs.declared.fault.Fault.{Fault}

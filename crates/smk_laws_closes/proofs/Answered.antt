@@ -7,7 +7,7 @@ use Rattle.smk_world.specs.World.{World, run}
 use Rattle.smk_flow.specs.Flows.{Flow}
 use Rattle.smk_pick.specs.declared.settings.Settings.{Settings}
 use Rattle.smk_report.specs.declared.fault.Fault.{Fault}
-use Rattle.smk_plan_live.specs.declared.live.LivePlan.{LivePlan}
+use Rattle.smk_plan_live.specs.Live.{LivePlan}
 use Rattle.smk_drive_outcome.specs.declared.outcome.Outcome.{Outcome}
 use Rattle.smk_drive_step.specs.Crews.{IsPutFor, is_device, or_later}
 use Rattle.smk_drive_course.specs.Steps.{HasGuarded, guards_of}

@@ -14,7 +14,7 @@ use Rattle.smk_plan.specs.States.{Plan}
 use Rattle.smk_report.specs.declared.fault.Fault.TheVariants as fault
 use Rattle.smk_keep.specs.declared.fault.KeepFault.{KeepFault}
 use Rattle.smk_keep.specs.declared.fault.KeepFault.TheVariants as keep
-use Rattle.smk_plan_live.specs.declared.live.LivePlan.{LivePlan}
+use Rattle.smk_plan_live.specs.Live.{LivePlan}
 use Rattle.smk_drive.specs.Moments.{Begun, seen}
 use Rattle.smk_drive_outcome.specs.declared.outcome.Outcome.{Outcome}
 use Rattle.smk_drive_step.specs.Crews.{goings}

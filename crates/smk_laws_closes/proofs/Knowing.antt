@@ -21,7 +21,7 @@ use Rattle.smk_keep.specs.declared.fault.KeepFault.{KeepFault}
 use Rattle.smk_keep.specs.declared.fault.KeepFault.TheVariants as keep
 use Rattle.smk_keep.specs.Keeping.{keep_failed, protect_requests}
 use Rattle.smk_world.specs.Requests.{IsCutShort}
-use Rattle.smk_plan_live.specs.declared.live.LivePlan.{LivePlan}
+use Rattle.smk_plan_live.specs.Live.{LivePlan}
 use Rattle.smk_run.specs.declared.ending.Ending.{Ending as End}
 use Rattle.smk_run.specs.declared.ending.Ending.TheVariants.{BadMember, Good, NoOutput, Status, WrongKind}
 use Rattle.smk_run.specs.Turns.{is_good}

@@ -13,7 +13,7 @@ use Rattle.smk_report.specs.declared.fault.Fault.TheVariants as fault
 use Rattle.smk_keep.specs.declared.fault.KeepFault.{KeepFault}
 use Rattle.smk_keep.specs.declared.fault.KeepFault.TheVariants as keep
 use Rattle.smk_keep.specs.Keeping.{protect_requests}
-use Rattle.smk_plan_live.specs.declared.live.LivePlan.{LivePlan}
+use Rattle.smk_plan_live.specs.Live.{LivePlan}
 use Rattle.smk_plan_live.specs.Lives.{IsLive}
 use Rattle.smk_drive_step.specs.Crews.{IsPutFor, or_later}
 use Rattle.smk_drive_course.specs.Stands.{IsReplanned, LacksMemory, Stand, WasHalted, broken_by_device, first_fault, halted_by}

@@ -16,7 +16,7 @@ use Rattle.smk_chain.specs.declared.jobs.Jobs.{Jobs}
 use Rattle.smk_chain.specs.Derive.{Derived, derivation}
 use Rattle.smk_plan_facts.specs.Facts.{told_sources}
 use Rattle.smk_plan_live.specs.declared.base.Base.{Base}
-use Rattle.smk_plan_live.specs.declared.live.LivePlan.{LivePlan}
+use Rattle.smk_plan_live.specs.Live.{LivePlan}
 use Rattle.smk_plan_live.specs.declared.phase.Phase.TheVariants.{Closed as ClosedPhase}
 use Rattle.smk_plan_live.specs.Lives.{IsAgreed, IsLive, progress_of}
 use Rattle.smk_plan_live.proofs.Changed.{get_other}

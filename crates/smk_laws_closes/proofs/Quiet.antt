@@ -14,7 +14,7 @@ use Rattle.smk_flow.specs.declared.job.Job.{Job}
 use Rattle.smk_pick.specs.declared.settings.Settings.{Settings}
 use Rattle.smk_report.specs.declared.fault.Fault.{Fault}
 use Rattle.smk_keep.specs.declared.fault.KeepFault.TheVariants as keep
-use Rattle.smk_plan_live.specs.declared.live.LivePlan.{LivePlan}
+use Rattle.smk_plan_live.specs.Live.{LivePlan}
 use Rattle.smk_run.specs.declared.ending.Ending.{Ending as End}
 use Rattle.smk_run.specs.Statuses.{AreGiven, IsGiven}
 use Rattle.smk_run.proofs.Calls.{EachCall, settled_each}

@@ -12,7 +12,7 @@ use Rattle.smk_pick.specs.declared.settings.Settings.{Settings}
 use Rattle.smk_chain.specs.Derive.{Listings}
 use Rattle.smk_plan.specs.States.{Plan}
 use Rattle.smk_plan_live.specs.declared.base.Base.{Base}
-use Rattle.smk_plan_live.specs.declared.live.LivePlan.{LivePlan}
+use Rattle.smk_plan_live.specs.Live.{LivePlan}
 use Rattle.smk_plan_live.specs.Carried.{has_name}
 use Rattle.smk_plan_live.specs.Lives.{IsAgreed, progress_of}
 use Rattle.smk_plan_live.specs.Phases.{has_begun}

@@ -27,7 +27,7 @@ use Rattle.smk_laws_closes.specs.Closes.{counted_end}
 use Rattle.smk_drive_course.specs.Stands.{NoneLeft, Stand, broken_by_device, halted_by, without_child}
 use Rattle.smk_drive_course.specs.Steps.{Deed, IsWaitFor}
 use Rattle.smk_drive_course.specs.Breaks.{Done, HasBrokenOff, HasLeft, Steps, Then}
-use Rattle.smk_plan_live.specs.declared.live.LivePlan.{LivePlan}
+use Rattle.smk_plan_live.specs.Live.{LivePlan}
 use Rattle.smk_drive_first.specs.Opening.{AreRules}
 use Rattle.smk_drive_hub.specs.Keeping.{heeded}
 use Rattle.smk_drive_hub.specs.Turned.{WhereUnhalted}

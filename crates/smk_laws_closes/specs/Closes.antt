@@ -26,7 +26,7 @@ use Rattle.smk_run.specs.Reports.{failure}
 use Rattle.smk_laws_moments.proofs.QuietCalls.{IsQuiet}
 use Rattle.smk_run.proofs.Calls.{EachCall}
 use Rattle.smk_drive.specs.Reports.{named_job}
-use Rattle.smk_plan_live.specs.declared.live.LivePlan.{LivePlan}
+use Rattle.smk_plan_live.specs.Live.{LivePlan}
 use Rattle.smk_drive_step.specs.declared.children.Child.{Child}
 use Rattle.smk_drive_step.specs.Crews.{IsPutFor}
 use Rattle.smk_drive_course.specs.Stands.{NoneLeft}

@@ -11,7 +11,7 @@ use Rattle.smk_run.specs.declared.ending.Ending.TheVariants.{BadMember, Good, No
 use Rattle.smk_run.specs.Reports.{IsFront, end_line}
 use Rattle.smk_drive.specs.Reports.{named_job}
 use Rattle.smk_drive_step.specs.declared.children.Child.{Child}
-use Rattle.smk_plan_live.specs.declared.live.LivePlan.{LivePlan}
+use Rattle.smk_plan_live.specs.Live.{LivePlan}
 
 -- The line, where lines went to the sink and still do; a front of it, where none does any more; and nothing where none did.
 abbrev pub IsEndPut : Bool → Bool → Text → Text → Type 0

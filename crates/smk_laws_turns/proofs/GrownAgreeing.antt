@@ -14,7 +14,7 @@ use Rattle.smk_plan.specs.declared.seen.Sight.{Sight}
 use Rattle.smk_plan_facts.specs.Facts.{told_sources}
 use Rattle.smk_plan_facts.proofs.Tests.{each_of}
 use Rattle.smk_plan_live.specs.declared.base.Base.{Base}
-use Rattle.smk_plan_live.specs.declared.live.LivePlan.{LivePlan}
+use Rattle.smk_plan_live.specs.Live.{LivePlan}
 use Rattle.smk_plan_live.specs.Agreeing.{AreTold, is_source_by}
 use Rattle.smk_plan_live.specs.Changes.{IsGrown}
 use Rattle.smk_plan_live.specs.Lives.{IsAgreed, IsSound}

@@ -14,7 +14,7 @@ use Rattle.smk_laws_plan.proofs.PlanOne.{one_plan}
 use Rattle.smk_plan.specs.Sights.{is_guarded}
 use Rattle.smk_plan.specs.States.{IsPlan, Last, LastPlan, Plan, Progress, job_path, new_listings, staged}
 use Rattle.smk_plan_table.specs.Plans.{HasMadeAt, IsUnrefused}
-use Rattle.smk_plan_live.specs.declared.live.LivePlan.{LivePlan}
+use Rattle.smk_plan_live.specs.Live.{LivePlan}
 use Rattle.smk_plan_live.specs.Lives.{judging_of, progress_of}
 use Rattle.smk_report.specs.declared.fault.Fault.{Fault}
 use Rattle.smk_report.specs.declared.fault.Fault.TheVariants as fault

@@ -11,7 +11,7 @@ use Rattle.smk_chain.specs.Derive.{Derived, Listings, derivation}
 use Rattle.smk_pick.specs.declared.settings.Settings.{Settings}
 use Rattle.smk_plan.specs.States.{HasStates, IsPlan, LastPlan, Progress, job_path, new_listings}
 use Rattle.smk_plan_table.specs.Plans.{HasMadeAt}
-use Rattle.smk_plan_live.specs.declared.live.LivePlan.{LivePlan}
+use Rattle.smk_plan_live.specs.Live.{LivePlan}
 use Rattle.smk_plan_live.specs.declared.phase.Phase.{Phase}
 use Rattle.smk_plan_live.specs.Lives.{IsAgreed, judging_of}
 use Rattle.smk_plan_live.specs.Lives as lives

@@ -21,7 +21,7 @@ use Rattle.smk_laws_plan.proofs.CurrentLists.{get_in}
 use Rattle.smk_plan_states.specs.Judged.{with_states}
 use Rattle.smk_plan_table.specs.Plans.{HasMadeAt, fault_in}
 use Rattle.smk_plan_live.specs.declared.base.Base.{Base}
-use Rattle.smk_plan_live.specs.declared.live.LivePlan.{LivePlan}
+use Rattle.smk_plan_live.specs.Live.{LivePlan}
 use Rattle.smk_plan_live.specs.declared.phase.Phase.{Phase}
 use Rattle.smk_plan_live.specs.Lives.{IsAgreed, IsLive, IsRefusedNow, judging_of}
 use Rattle.smk_plan_live.specs.Lives as lives

@@ -24,7 +24,7 @@ use Rattle.smk_plan_facts.specs.Facts.{told_sources}
 use Rattle.smk_plan_look.specs.Seeing.{AreSeenUnowned, AreSummedUnowned}
 use Rattle.smk_plan_preview.specs.Rounds.{AreReady, HasTooMany, IsRefusedFirst}
 use Rattle.smk_plan_live.specs.declared.base.Base.{Base}
-use Rattle.smk_plan_live.specs.declared.live.LivePlan.{LivePlan}
+use Rattle.smk_plan_live.specs.Live.{LivePlan}
 use Rattle.smk_plan_live.specs.Now.{known_now}
 use Rattle.smk_report.specs.declared.fault.Fault.{Fault}
 

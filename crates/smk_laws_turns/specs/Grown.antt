@@ -15,7 +15,7 @@ use Rattle.smk_plan.specs.declared.seen.Sight.{Sight}
 use Rattle.smk_plan.specs.States.{Progress}
 use Rattle.smk_plan_facts.specs.Facts.{told_sources}
 use Rattle.smk_plan_live.specs.declared.base.Base.{Base}
-use Rattle.smk_plan_live.specs.declared.live.LivePlan.{LivePlan}
+use Rattle.smk_plan_live.specs.Live.{LivePlan}
 use Rattle.smk_plan_live.specs.declared.phase.Phase.TheVariants.{Running}
 use Rattle.smk_plan_live.specs.Carried.{phase_from}
 use Rattle.smk_plan_live.specs.Changes.{IsGrown}

@@ -6,7 +6,7 @@ use Rattle.smk_world.specs.Trees.{Act, IsIn}
 use Rattle.smk_flow.specs.declared.job.Job.{Job}
 use Rattle.smk_flow.specs.Flows.{Flow}
 use Rattle.smk_pick.specs.declared.settings.Settings.{Settings}
-use Rattle.smk_plan_live.specs.declared.live.LivePlan.{LivePlan}
+use Rattle.smk_plan_live.specs.Live.{LivePlan}
 use Rattle.smk_plan_live.specs.Lives.{IsLive}
 use Rattle.smk_report.specs.Lines.{done_line}
 use Rattle.smk_report.specs.declared.fault.Fault.{Fault}

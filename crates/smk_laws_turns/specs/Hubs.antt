@@ -23,7 +23,7 @@ use Rattle.smk_plan_facts.specs.Facts.{told_sources}
 use Rattle.smk_job.specs.Jobs.{Underway}
 use Rattle.smk_run.specs.declared.tally.Tally.{Tally}
 use Rattle.smk_run.specs.Runs.{AreWritable}
-use Rattle.smk_plan_live.specs.declared.live.LivePlan.{LivePlan}
+use Rattle.smk_plan_live.specs.Live.{LivePlan}
 use Rattle.smk_plan_live.specs.declared.phase.Phase.TheVariants.{Running}
 use Rattle.smk_plan_live.specs.Lives.{IsAgreed, IsLive, progress_of}
 use Rattle.smk_drive.specs.Moments.{Rules, Begun, draws, greatest, runs, seen}

@@ -8,7 +8,7 @@ use Rattle.smk_trigger.specs.declared.reason.State.{State}
 use Rattle.smk_laws_plan.specs.Current.{IsComplete}
 use Rattle.smk_plan.specs.States.{LastPlan, Plan, Progress, staged}
 use Rattle.smk_plan_states.specs.Judged.{with_states}
-use Rattle.smk_plan_live.specs.declared.live.LivePlan.{LivePlan}
+use Rattle.smk_plan_live.specs.Live.{LivePlan}
 use Rattle.smk_plan_live.specs.Lives.{IsAgreed, IsLive, progress_of}
 use Rattle.smk_report.specs.declared.fault.Fault.{Fault}
 use Rattle.smk_drive.specs.Moments.{Rules}

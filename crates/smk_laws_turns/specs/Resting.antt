@@ -13,7 +13,7 @@ use Rattle.smk_plan.specs.declared.fault.PlanFault.{PlanFault}
 use Rattle.smk_plan.specs.States.{IsPlan, Plan}
 use Rattle.smk_plan_table.specs.Plans.{fault_in}
 use Rattle.smk_plan_live.specs.declared.base.Base.{Base}
-use Rattle.smk_plan_live.specs.declared.live.LivePlan.{LivePlan}
+use Rattle.smk_plan_live.specs.Live.{LivePlan}
 use Rattle.smk_plan_live.specs.declared.phase.Phase.{Phase}
 use Rattle.smk_plan_live.specs.declared.phase.Phase.TheVariants.{Waiting, Running, Closed}
 use Rattle.smk_plan_live.specs.Lives.{IsAgreed, IsLive, IsRefusedNow, progress_of}

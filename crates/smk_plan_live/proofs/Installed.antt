@@ -30,7 +30,7 @@ use Rattle.smk_plan_states.specs.Stays.{AreRowsBut, Told as TellsRows}
 use Rattle.smk_plan_table.specs.Parts.{IsSuspectOf}
 use Rattle.smk_plan_live.specs.declared.base.Base.{Base}
 use Rattle.smk_plan_live.specs.declared.lending.Lent.{Lent}
-use Rattle.smk_plan_live.specs.declared.live.LivePlan.{LivePlan}
+use Rattle.smk_plan_live.specs.Live.{LivePlan}
 use Rattle.smk_plan_live.specs.declared.next.Change.{Change}
 use Rattle.smk_plan_live.specs.declared.renewing.Renewed.{Renewed}
 use Rattle.smk_plan_live.specs.declared.sites.Site.{Site}

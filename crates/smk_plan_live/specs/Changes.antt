@@ -13,7 +13,7 @@ use Rattle.smk_plan.specs.declared.fault.PlanFault.{PlanFault}
 use Rattle.smk_plan.specs.declared.seen.Sight.{Sight}
 use Rattle.smk_plan.specs.Sights.{sight_at}
 use Rattle.smk_plan_live.specs.declared.base.Base.{Base}
-use Rattle.smk_plan_live.specs.declared.live.LivePlan.{LivePlan}
+use Rattle.smk_plan_live.specs.Live.{LivePlan}
 use Rattle.smk_plan_live.specs.declared.phase.Phase.TheVariants.{Waiting, Closed}
 use Rattle.smk_plan_live.specs.Now.{seen_before}
 use Rattle.smk_plan_live.specs.Carried.{advanced, begun, spent, phase_from, began_from, entries_from, sights_from, with_seen}

@@ -1,4 +1,6 @@
 pub mod Phases
+pub mod Kept
+pub mod Live
 pub mod Sites
 pub mod Readers
 pub mod Now

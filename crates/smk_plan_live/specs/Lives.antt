@@ -18,7 +18,9 @@ use Rattle.smk_plan.specs.States.{Progress, test_some}
 use Rattle.smk_plan_facts.specs.Facts.{told_sources, IsMade}
 use Rattle.smk_plan_facts.specs.Telling.{facts_in, forced_by, has_path_texts, IsSorted, directories_of, is_told_whole, outputs_in, wholes_in}
 use Rattle.smk_plan_states.specs.declared.standing.Last.{Last}
+use Rattle.smk_plan_states.specs.declared.standing.Ranking.{Ranking}
 use Rattle.smk_plan_states.specs.declared.table.Table.{Table}
+use Rattle.smk_plan_states.specs.Ranks.{rank_of}
 use Rattle.smk_plan_states.specs.Served.{AreServed}
 use Rattle.smk_plan_states.specs.Judged.{Judging, any_held_back}
 use Rattle.smk_plan_states.specs.Rows.{lent}
@@ -31,7 +33,8 @@ use Rattle.smk_plan_table.specs.Plans.{HasMadeAt, IsRefusedAt}
 use Rattle.smk_plan_live.specs.declared.base.Base.{Base}
 use Rattle.smk_plan_live.specs.declared.flags.Flags.{Flags}
 use Rattle.smk_plan_live.specs.declared.lending.Lent.{Lent}
-use Rattle.smk_plan_live.specs.declared.live.LivePlan.{LivePlan}
+use Rattle.smk_plan_live.specs.Kept.{told_kept, told_lent}
+use Rattle.smk_plan_live.specs.Live.{LivePlan}
 use Rattle.smk_plan_live.specs.Agreeing.{AgreesNow}
 use Rattle.smk_plan_live.specs.Carried.{has_name}
 use Rattle.smk_plan_live.specs.Commands.{has_command}
@@ -121,16 +124,6 @@ pub record AreLentNow (settings : Settings) (b : Base) (rows : Lent) (makers : L
 
 -- ## What is kept of ranks
 
--- what is told of the jobs by what is lent of them, where these run
-abbrev pub told_lent : Lent → List Bool → List (Option State) → TellsRows
-told_lent rows makers began =
-    record { outputs = lent rows.outputs.items; makers = makers; reasons = lent rows.reasons.items; forced = rows.forced.items; running = began }
-
--- the same by what is kept of them
-abbrev pub told_kept : Flags → List (List Reason) → List JobFacts → List (Option State) → TellsRows
-told_kept flags reasons facts began =
-    record { outputs = flags.outputs; makers = flags.makers; reasons = reasons; forced = map (λ (f : JobFacts). f.forced) facts; running = began }
-
 -- what was kept of the last plan, if anything, stood then, and what is told now differs from that by a step of one job
 abbrev pub FollowsLent : Settings → Base → Table → Lent → List Bool → Option Last → Type 0
 FollowsLent settings b table rows makers last = AreServed b.jobs settings.targets → FollowsBy table last (told_lent rows makers b.began)
@@ -139,9 +132,13 @@ FollowsLent settings b table rows makers last = AreServed b.jobs settings.target
 abbrev pub told_live : LivePlan → List (Option State) → TellsRows
 told_live p began = told_kept p.flags p.reasons.items p.facts.items began
 
--- its states are those by what it tells, where these run, and so is what is kept of their ranks
+-- its ranks are those by what it tells, where these run
 abbrev pub Stands : LivePlan → List (Option State) → Type 0
-Stands p began = StandsBy p.table (told_live p began) (record { states = p.plan.states; ranking = p.ranking })
+Stands p began = StandsBy p.table (told_live p began) p.ranking
+
+-- the ranks that are kept are those of its states, in each image that has what is known and was seen now
+abbrev pub AreRanked : Settings → Base → Ranking → Told → Type 0
+AreRanked settings b ranking told = (image : Image) → IsAgreed image settings b → ranking.last.items ≡ map rank_of told.states
 
 -- What is true of each plan that is kept: its base is sound; there is a state for each job, and it is told of each target whether it is current; the jobs are
 -- judged by what is known and was seen now; what it tells is by the definitions; what it keeps by numbers, and of ranks, is so; and where all are seen to have
@@ -159,5 +156,6 @@ pub record IsLive (p : LivePlan) : Type 0 where
   pub flags : AreServed p.base.jobs p.settings.targets → AreFlagsNow p.settings p.base p.flags
   pub readers : AreServed p.base.jobs p.settings.targets → p.readers.items ≡ readers_of p.base.jobs.jobs
   pub standing : AreServed p.base.jobs p.settings.targets → Stands p p.base.began
+  pub ranked : AreRanked p.settings p.base p.ranking p.plan
   pub named : AreNamed p.base
   pub commands : p.commanded ≡ true → list_all (has_command p.settings.cores) p.base.jobs.jobs ≡ true

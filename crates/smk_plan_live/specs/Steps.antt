@@ -23,7 +23,7 @@ use Rattle.smk_plan_table.specs.declared.suspects.Suspect.{Suspect}
 use Rattle.smk_plan_table.specs.Parts.{IsSuspectOf}
 use Rattle.smk_plan_live.specs.declared.base.Base.{Base}
 use Rattle.smk_plan_live.specs.declared.beginning.Start.{Start}
-use Rattle.smk_plan_live.specs.declared.live.LivePlan.{LivePlan}
+use Rattle.smk_plan_live.specs.Live.{LivePlan}
 use Rattle.smk_plan_live.specs.declared.new.Kept.{Kept}
 use Rattle.smk_plan_live.specs.declared.new.Told.{Told}
 use Rattle.smk_plan_live.specs.declared.next.Change.{Change}

@@ -1,6 +1,7 @@
 //! A plan that is kept, and what it tells.
 
-ghost use Rattle.std.specs.Prelude.{◌≡◌, option_map, true};
+ghost use Rattle.std.specs.Prelude.{◌≡◌, map, option_map, slice_index_or, true, false, None, [], IfOk};
+ghost use Rattle.smk_plan_states.specs.Ranks.{rank_of};
 ghost use Rattle.std.specs.List.{list_all, slice_get};
 ghost use Rattle.smk_store.specs.Images.{Image};
 ghost use Rattle.smk_plan_states.specs.Judged.{any_held_back};
@@ -9,14 +10,17 @@ ghost use Rattle.smk_plan_table.specs.Plans.{HasMadeAt};
 use crate::Phase;
 use crate::base::Base;
 use crate::flags::Flags;
+use crate::lending::lend;
 use crate::now::{entry_now, sight_now, site_of};
-use smk_base::{List, PathText};
-use smk_chain::Jobs;
+use smk_base::{List, OutOfMemory, PathText};
+use smk_chain::{Jobs, Listings};
 use smk_pick::Settings;
-use smk_plan::{Plan, Sight};
-use smk_plan_states::{Ranking, Table};
+use smk_plan::Sight;
+use smk_plan_states::{Rank, Ranking, Rows, Table};
 use smk_store::Entry;
 use smk_trigger::{JobFacts, Reason, State};
+use std::alloc::Global;
+use std::marker::Model;
 
 /// A plan that is kept while jobs begin and are closed and new ones come, with what each of its jobs is judged by and what the judge said of it.
 #[derive(Drop)]
@@ -25,9 +29,12 @@ pub struct LivePlan {
     pub(crate) settings: Settings,
     pub(crate) facts: Vec<JobFacts>,
     pub(crate) reasons: Vec<List<Reason>>,
-    pub(crate) plan: Plan,
-    /// What is kept of the ranks of the jobs for the next step.
+    /// The ranks of the jobs, of which their states come, with what is kept of them for the next step.
     pub(crate) ranking: Ranking,
+    /// For each target whether it is current.
+    pub(crate) current: List<bool>,
+    /// The listings that have become known.
+    pub(crate) known: Listings,
     /// Whether some job is to be restored but counts as Clean.
     pub(crate) held: bool,
     /// How the paths of the jobs and targets hang together.
@@ -39,6 +46,56 @@ pub struct LivePlan {
     pub(crate) commanded: bool,
 }
 
+impl Model for LivePlan {
+    ghost use Rattle.smk_plan_live.specs.Live.{LivePlan, plan_kept};
+
+    ghost Value = { LivePlan };
+
+    ghost view = { λ r. record {
+      base = r.base;
+      settings = r.settings;
+      facts = r.facts;
+      reasons = r.reasons;
+      plan = plan_kept r.base r.facts.items r.reasons.items r.ranking r.current r.known r.table r.flags;
+      ranking = r.ranking;
+      held = r.held;
+      table = r.table;
+      flags = r.flags;
+      readers = r.readers;
+      commanded = r.commanded;
+    } };
+}
+
+// The reasons of the number; none where there are none.
+fn reasons_at(reasons: &[List<Reason>], number: usize) -> &[Reason]
+    ensures { result.now ≡ slice_index_or reasons.now number [] }
+{
+    match reasons.get(number) {
+        None => &[],
+        Some(own) => own.as_slice(),
+    }
+}
+
+// Whether the job of the number is forced, as its facts tell.
+fn is_forced_at(facts: &[JobFacts], number: usize) -> bool
+    ensures { result ≡ slice_index_or (map (λ f. f.forced) facts.now) number false }
+{
+    match facts.get(number) {
+        None => false,
+        Some(has) => has.forced,
+    }
+}
+
+// The state that the job of the number had when it began, if its child runs.
+fn began_at(began: &[Option<State>], number: usize) -> Option<&State>
+    ensures { option_map (λ s. s.now) result ≡ slice_index_or began.now number None }
+{
+    match began.get(number) {
+        None => None,
+        Some(state) => state.as_ref(),
+    }
+}
+
 impl LivePlan {
     ghost use Rattle.smk_plan_live.specs.Lives.{IsLive, IsAgreed, AreMakersWhole, facts_now, judging_of};
     ghost use Rattle.smk_plan_states.specs.Tables.{IsTableOf};
@@ -46,13 +103,60 @@ impl LivePlan {
     ghost use Rattle.smk_plan_live.specs.Now.{output_entry, sight_now};
     ghost use Rattle.smk_plan_live.specs.Commands.{has_command};
 
-    /// The plan of this moment: the states of the jobs, which targets are current, and the listings that have become known. It takes no memory.
-    pub fn as_plan(&self) -> &Plan
-        ensures value { result.now ≡ self.now.plan }
-        ensures now { IsLive self.now → (image : Image) → IsAgreed image self.now.settings self.now.base
-            → HasMadeAt (judging_of image self.now.settings self.now.base) self.now.base.jobs result.now }
+    /// The rank of each job: what its state is, but for its reasons. It takes no memory.
+    pub fn ranks(&self) -> &[Rank]
+        ensures value { result.now ≡ self.now.ranking.last.items }
+        ensures now { IsLive self.now → (image : Image) → IsAgreed image self.now.settings self.now.base → result.now ≡ map rank_of self.now.plan.states }
     {
-        &self.plan
+        self.ranking.ranks()
+    }
+
+    /// For each target whether it is current. It takes no memory.
+    pub fn current(&self) -> &List<bool>
+        ensures value { result.now ≡ self.now.plan.current }
+        ensures now { IsLive self.now → (image : Image) → IsAgreed image self.now.settings self.now.base
+            → HasMadeAt (judging_of image self.now.settings self.now.base) self.now.base.jobs self.now.plan }
+    {
+        &self.current
+    }
+
+    /// The listings that have become known. It takes no memory.
+    pub fn known(&self) -> &Listings
+        ensures { result.now ≡ self.now.plan.known }
+    {
+        &self.known
+    }
+
+    /// The state of the job now. None where there is no job of this number. `OutOfMemory` where there is no memory for it.
+    pub fn state(&self, alloc: Global, job: u32) -> Result<Option<State>, OutOfMemory>
+        ensures { IfOk result (λ state. state ≡ slice_get self.now.plan.states job) }
+    {
+        let number = job as usize;
+        let own = reasons_at(self.reasons.as_slice(), number);
+        let forced = is_forced_at(self.facts.as_slice(), number);
+        let begun = began_at(self.base.began.as_slice(), number);
+        let state = self
+            .table
+            .state_of(alloc, &self.ranking, number, own, forced, begun)?;
+        Ok(state)
+    }
+
+    /// The states of all jobs now. `OutOfMemory` where there is no memory for them.
+    pub fn states(&self, alloc: Global) -> Result<List<State>, OutOfMemory>
+        ensures { IfOk result (λ states. states ≡ self.now.plan.states) }
+    {
+        let outputs = self.flags.outputs.as_slice();
+        let reasons = self.reasons.as_slice();
+        let lent = lend(alloc, outputs, reasons, self.facts.as_slice())?;
+        let rows = Rows {
+            outputs: lent.outputs.as_slice(),
+            makers: self.flags.makers.as_slice(),
+            reasons: lent.reasons.as_slice(),
+            forced: lent.forced.as_slice(),
+            running: self.base.began.as_slice(),
+        };
+        let states = self.table.states(alloc, &rows, &self.ranking)?;
+        Ok(states)
     }
 
     /// The jobs. It takes no memory.

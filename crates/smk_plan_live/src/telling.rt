@@ -6,7 +6,9 @@ ghost use Rattle.smk_plan_states.specs.Served.{AreServed};
 ghost use Rattle.smk_plan_states.specs.Tables.{IsTableOf};
 ghost use Rattle.smk_plan_live.specs.Phases.{has_begun, begun_in};
 ghost use Rattle.smk_plan_states.specs.Standing.{StandsBy};
-ghost use Rattle.smk_plan_live.specs.Lives.{AreLentNow, FollowsLent, IsNow, IsRefusedNow, told_lent};
+ghost use Rattle.smk_plan_table.specs.Plans.{plan_by};
+ghost use Rattle.smk_plan_live.specs.Kept.{told_lent};
+ghost use Rattle.smk_plan_live.specs.Lives.{AreLentNow, AreRanked, FollowsLent, IsNow, IsRefusedNow};
 
 use crate::Phase;
 use crate::base::Base;
@@ -15,17 +17,16 @@ use smk_base::{List, OutOfMemory, PathText};
 use smk_chain::first_output;
 use smk_flow::Job;
 use smk_pick::Settings;
-use smk_plan::{Plan, PlanFault};
+use smk_plan::PlanFault;
 use smk_plan_facts::told_is_so;
-use smk_plan_states::{Last, Ranking, Rows, Table};
-use smk_plan_table::{Stood, Suspect, plan_now};
+use smk_plan_states::{Last, Rows, Table};
+use smk_plan_table::{Ranked, Suspect, plan_now};
 use std::alloc::Global;
 
-/// A plan, what is kept of the ranks of its jobs, and whether some job is to be restored but counts as Clean.
+/// A plan by ranks, and whether some job is to be restored but counts as Clean.
 #[derive(Drop)]
 pub(crate) struct Made {
-    pub(crate) plan: Plan,
-    pub(crate) ranking: Ranking,
+    pub(crate) ranked: Ranked,
     pub(crate) held: bool,
 }
 
@@ -110,13 +111,16 @@ fn tell_by(
 ) -> Result<Made, PlanFault>
     requires table { IsTableOf base.now.jobs settings.now.targets table.now }
     requires begun { begun.now ≡ map has_begun base.now.phases }
-    ensures each { IfOk result (λ made. length made.plan.states ≡ length base.now.jobs.jobs) }
-    ensures targets { IfOk result (λ made. length made.plan.current ≡ length settings.now.targets) }
+    ensures each { IfOk result (λ made. length made.ranked.ranking.last.items ≡ length base.now.jobs.jobs) }
+    ensures targets { IfOk result (λ made. length made.ranked.current ≡ length settings.now.targets) }
     ensures standing { IfOk result (λ made. AreServed base.now.jobs settings.now.targets → FollowsLent settings.now base.now table.now lent.now makers.now last.entry
-        → StandsBy table.now (told_lent lent.now makers.now base.now.began) (record { states = made.plan.states; ranking = made.ranking })) }
+        → StandsBy table.now (told_lent lent.now makers.now base.now.began) made.ranked.ranking) }
+    ensures ranked { IfOk result (λ made. FollowsLent settings.now base.now table.now lent.now makers.now last.entry
+        → (AreServed base.now.jobs settings.now.targets → AreLentNow settings.now base.now lent.now makers.now suspects.now)
+        → AreRanked settings.now base.now made.ranked.ranking (plan_by table.now (told_lent lent.now makers.now base.now.began) made.ranked)) }
     ensures now { IfOk result (λ made. FollowsLent settings.now base.now table.now lent.now makers.now last.entry
         → (AreServed base.now.jobs settings.now.targets → AreLentNow settings.now base.now lent.now makers.now suspects.now)
-        → IsNow settings.now base.now made.plan made.held) }
+        → IsNow settings.now base.now (plan_by table.now (told_lent lent.now makers.now base.now.began) made.ranked) made.held) }
     ensures refused { IfErr result (λ fault. fault ≢ PlanFault.OutOfMemory → FollowsLent settings.now base.now table.now lent.now makers.now last.entry
         → (AreServed base.now.jobs settings.now.targets → AreLentNow settings.now base.now lent.now makers.now suspects.now)
         → IsRefusedNow settings.now base.now fault) }
@@ -133,17 +137,10 @@ fn tell_by(
         alloc, &base.jobs, table, base, settings, &rows, begun, suspects, last,
     ) {
         Err(fault) => Err(fault),
-        Ok(stood) => {
-            let Stood { plan, ranking } = stood;
-            match table.holds_back(alloc, &rows, plan.states.as_slice()) {
-                Err(_) => Err(PlanFault::OutOfMemory),
-                Ok(held) => Ok(Made {
-                    plan,
-                    ranking,
-                    held,
-                }),
-            }
-        }
+        Ok(ranked) => match table.holds_back(alloc, &rows, &ranked.ranking) {
+            Err(_) => Err(PlanFault::OutOfMemory),
+            Ok(held) => Ok(Made { ranked, held }),
+        },
     }
 }
 
@@ -162,13 +159,16 @@ pub(crate) fn tell(
     last: Option<Last<'_>>,
 ) -> Result<Made, PlanFault>
     requires { IsTableOf base.now.jobs settings.now.targets table.now }
-    ensures each { IfOk result (λ made. length made.plan.states ≡ length base.now.jobs.jobs) }
-    ensures targets { IfOk result (λ made. length made.plan.current ≡ length settings.now.targets) }
+    ensures each { IfOk result (λ made. length made.ranked.ranking.last.items ≡ length base.now.jobs.jobs) }
+    ensures targets { IfOk result (λ made. length made.ranked.current ≡ length settings.now.targets) }
     ensures standing { IfOk result (λ made. AreServed base.now.jobs settings.now.targets → FollowsLent settings.now base.now table.now lent.now makers.now last.entry
-        → StandsBy table.now (told_lent lent.now makers.now base.now.began) (record { states = made.plan.states; ranking = made.ranking })) }
+        → StandsBy table.now (told_lent lent.now makers.now base.now.began) made.ranked.ranking) }
+    ensures ranked { IfOk result (λ made. FollowsLent settings.now base.now table.now lent.now makers.now last.entry
+        → (AreServed base.now.jobs settings.now.targets → AreLentNow settings.now base.now lent.now makers.now suspects.now)
+        → AreRanked settings.now base.now made.ranked.ranking (plan_by table.now (told_lent lent.now makers.now base.now.began) made.ranked)) }
     ensures now { IfOk result (λ made. FollowsLent settings.now base.now table.now lent.now makers.now last.entry
         → (AreServed base.now.jobs settings.now.targets → AreLentNow settings.now base.now lent.now makers.now suspects.now)
-        → IsNow settings.now base.now made.plan made.held) }
+        → IsNow settings.now base.now (plan_by table.now (told_lent lent.now makers.now base.now.began) made.ranked) made.held) }
     ensures refused { IfErr result (λ fault. fault ≢ PlanFault.OutOfMemory → FollowsLent settings.now base.now table.now lent.now makers.now last.entry
         → (AreServed base.now.jobs settings.now.targets → AreLentNow settings.now base.now lent.now makers.now suspects.now)
         → IsRefusedNow settings.now base.now fault) }

@@ -29,8 +29,11 @@ use Rattle.smk_plan_states.specs.Waits.{ready_told, waits_of, over_waits, part_w
 use Rattle.smk_plan_states.specs.Lines.{tells_of, link_to, job_of, origin_of, folder_told, is_listed, gathered_spot, over_spots, job_spots, all_spots, awaited_paths, target_of}
 use Rattle.smk_plan_states.specs.Rows.{AreRowsAt}
 use Rattle.smk_plan_states.specs.Tables.{IsTableAt, same_path}
-use Rattle.smk_plan_states.specs.Spots.{spot_at, spot_in, is_ready_spot, is_over_ready}
+use Rattle.smk_plan_states.specs.Spots.{spot_at, spot_in, is_ready_spot}
+use Rattle.smk_plan_states.specs.Ranks.{rank_of}
 use Rattle.smk_plan_states.specs.Ranking.{is_new_awaited}
+use Rattle.smk_plan_states.specs.declared.ranks.Rank.{Rank}
+use Rattle.smk_plan_states.proofs.ByState.{ready_state, over_state, new_state, ready_ranks, new_ranks}
 use Rattle.smk_laws_plan.proofs.CurrentLists.{In, distinct_in}
 use Rattle.smk_laws_plan.proofs.PlanStates.{filter_same}
 use Rattle.smk_plan_states.proofs.Told.{listed_none}
@@ -161,16 +164,16 @@ module _ (J : Jobs) (asked : List Path) where
         ∙ sym (flat_mapped (awaits_told (site_at image J)) (parts_of image) J.jobs))
 
     module _ (ss : List State) (spots : Option ℕ → Option Spot) (are : AreSpots image J spots) where
-      pub ready_is : (q : Path) → test_some (is_ready_spot ss) (spots (link_to J.makers q)) ≡ ready_told ss (site_at image J q)
-      ready_is q = ap (test_some (is_ready_spot ss)) (are q) ∙ go (site_at image J q)
+      pub ready_is : (q : Path) → test_some (ready_state ss) (spots (link_to J.makers q)) ≡ ready_told ss (site_at image J q)
+      ready_is q = ap (test_some (ready_state ss)) (are q) ∙ go (site_at image J q)
         where
-          go : (o : Option Site) → test_some (is_ready_spot ss) (option_map plain o) ≡ ready_told ss o
+          go : (o : Option Site) → test_some (ready_state ss) (option_map plain o) ≡ ready_told ss o
           go None = refl
           go (Some s) = refl
 
       -- an awaited directory, and whether it is ready
       abbrev wait_of : Awaited → Wait
-      wait_of a = record { path = a.path; ready = if a.over then test_some (is_over_ready ss) (spots a.link) else test_some (is_ready_spot ss) (spots a.link) }
+      wait_of a = record { path = a.path; ready = if a.over then test_some (over_state ss) (spots a.link) else test_some (ready_state ss) (spots a.link) }
 
       over_wait : (q : Path) → map wait_of (over_spots J q) ≡ over_waits ss (site_at image J q)
       over_wait q = go (find (tells_of q) J.makers) (are q)
@@ -181,7 +184,7 @@ module _ (J : Jobs) (asked : List Path) where
               map wait_of (none_or_one (option_map (λ d. record { path = d; link = link_to J.makers q; over = true; listed = is_listed J d }) o))
               ≡ none_or_one (option_map (λ (d : Directory). record { path = d.path; ready = test_some is_clean (state_at ss job) && d.whole }) (option_map (directory_at image) o))
           folder job whole None e = refl
-          folder job whole (Some d) e = λ i. record { path = d; ready = test_some (is_over_ready ss) (e i) } ∷ []
+          folder job whole (Some d) e = λ i. record { path = d; ready = test_some (over_state ss) (e i) } ∷ []
 
           go :
               (o : Option Maker) → spots (link_to J.makers q) ≡ option_map plain (option_map (site_of image J.jobs) o) →
@@ -215,11 +218,11 @@ module _
 
   pub targets_by_links :
       (targets : List Target) → targets ≡ table.targets →
-      map (λ (t : Target). test_some (is_ready_spot ss) (spot_in origins rows t.link)) targets ≡ targets_ready at J ss
+      map (λ (t : Target). test_some (ready_state ss) (spot_in origins rows t.link)) targets ≡ targets_ready at J ss
   targets_by_links targets e =
-      ap (map (λ (t : Target). test_some (is_ready_spot ss) (spot_in origins rows t.link))) (e ∙ told.told.targets)
-      ∙ map_twice (λ (t : Target). test_some (is_ready_spot ss) (spot_in origins rows t.link)) (target_of J) at.settings.targets
-      ∙ map_each (λ t. test_some (is_ready_spot ss) (spot_in origins rows (link_to J.makers t))) (λ t. ready_told ss (site_at at.image J t))
+      ap (map (λ (t : Target). test_some (ready_state ss) (spot_in origins rows t.link))) (e ∙ told.told.targets)
+      ∙ map_twice (λ (t : Target). test_some (ready_state ss) (spot_in origins rows t.link)) (target_of J) at.settings.targets
+      ∙ map_each (λ t. test_some (ready_state ss) (spot_in origins rows (link_to J.makers t))) (λ t. ready_told ss (site_at at.image J t))
       (ready_is J at.settings.targets at.image ss (spot_in origins rows) are) at.settings.targets
       ∙ targets_are at.image at.settings at.progress J at.settings.targets ss each told.served
 
@@ -250,7 +253,7 @@ module _
       to_wait : Path → Wait
       to_wait d = record { path = d; ready = ready d }
 
-  new_is : (a : Awaited) → In a (distinct same_path spots) → is_new_awaited ss (spot_in origins rows) a ≡ is_new at J ss a.path
+  new_is : (a : Awaited) → In a (distinct same_path spots) → new_state ss (spot_in origins rows) a ≡ is_new at J ss a.path
   new_is a i =
       let there = distinct_in same_path spots a i in
       let wait : wait_at a ≡ to_wait a.path =
@@ -264,9 +267,30 @@ module _
 
   pub new_by_links :
       (awaited : List Awaited) → awaited ≡ table.awaited →
-      map (λ (a : Awaited). a.path) (filter (is_new_awaited ss (spot_in origins rows)) awaited) ≡ new_directories at J ss
+      map (λ (a : Awaited). a.path) (filter (new_state ss (spot_in origins rows)) awaited) ≡ new_directories at J ss
   new_by_links awaited e =
-      ap (λ xs. map path_of (filter (is_new_awaited ss (spot_in origins rows)) xs)) (e ∙ told.told.awaited)
-      ∙ ap (map path_of) (filter_same (is_new_awaited ss (spot_in origins rows)) (λ (a : Awaited). is_new at J ss a.path) (distinct same_path spots) new_is)
+      ap (λ xs. map path_of (filter (new_state ss (spot_in origins rows)) xs)) (e ∙ told.told.awaited)
+      ∙ ap (map path_of) (filter_same (new_state ss (spot_in origins rows)) (λ (a : Awaited). is_new at J ss a.path) (distinct same_path spots) new_is)
       ∙ filter_mapped (is_new at J ss) (distinct same_path spots)
       ∙ ap (filter (is_new at J ss)) (distinct_mapped spots ∙ ap (distinct bytes_eq) paths_now)
+
+  -- so it is by their ranks
+  module _ (ranks : List Rank) (ranked : ranks ≡ map rank_of ss) where
+    pub targets_by_ranks :
+        (targets : List Target) → targets ≡ table.targets →
+        map (λ (t : Target). test_some (is_ready_spot ranks) (spot_in origins rows t.link)) targets ≡ targets_ready at J ss
+    targets_by_ranks targets e =
+        ap (λ (rs : List Rank). map (λ (t : Target). test_some (is_ready_spot rs) (spot_in origins rows t.link)) targets) ranked
+        ∙ map_each (λ (t : Target). test_some (is_ready_spot (map rank_of ss)) (spot_in origins rows t.link))
+        (λ (t : Target). test_some (ready_state ss) (spot_in origins rows t.link)) (λ (t : Target). ready_ranks ss (spot_in origins rows t.link)) targets
+        ∙ targets_by_links targets e
+
+    pub new_by_ranks :
+        (awaited : List Awaited) → awaited ≡ table.awaited →
+        map (λ (a : Awaited). a.path) (filter (is_new_awaited ranks (spot_in origins rows)) awaited) ≡ new_directories at J ss
+    new_by_ranks awaited e =
+        ap (λ (rs : List Rank). map path_of (filter (is_new_awaited rs (spot_in origins rows)) awaited)) ranked
+        ∙ ap (map path_of)
+        (filter_same (is_new_awaited (map rank_of ss) (spot_in origins rows)) (new_state ss (spot_in origins rows)) awaited
+        (λ (a : Awaited) i. new_ranks ss (spot_in origins rows) a))
+        ∙ new_by_links awaited e

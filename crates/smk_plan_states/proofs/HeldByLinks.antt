@@ -18,7 +18,7 @@ use Rattle.smk_plan_states.specs.Held.{is_needed_by, needed_told}
 use Rattle.smk_plan_states.specs.Lines.{origin_of, line_of}
 use Rattle.smk_plan_states.specs.Rows.{lent}
 use Rattle.smk_plan_states.specs.Moment.{IsMoment}
-use Rattle.smk_plan_states.specs.Ranking.{is_run_reader, is_needed_in, is_held_by}
+use Rattle.smk_plan_states.proofs.ByState.{run_state, needed_state, held_state}
 use Rattle.smk_laws_plan.proofs.CurrentLists.{In}
 use Rattle.smk_laws_plan.proofs.PlanStates.{any_same}
 use Rattle.smk_plan_states.proofs.ReadOthers.{any_zipped}
@@ -35,7 +35,7 @@ any_five f b c d e g (x ∷ xs) = ap (λ t. f (b x, (c x, (d x, (e x, g x)))) ||
 module _
     (at : Judging) (J : Jobs) (ss : List State) (lines : List Line) (origins : List Origin) (rows : Rows) (used : List Bool)
     (h : IsMoment at J ss lines origins rows used)
-    (needed : List Bool) (told : (n : ℕ) → n < length origins → get_or needed n false ≡ is_needed_in lines ss n) where
+    (needed : List Bool) (told : (n : ℕ) → n < length origins → get_or needed n false ≡ needed_state lines ss n) where
   abbrev runs_now : Job → Bool
   runs_now = runs at J ss lines origins rows used h
 
@@ -48,8 +48,8 @@ module _
   linked : (n : ℕ) → n < length J.makers → get_or needed n false ≡ linked_by J h.served.reads runs_now J.jobs n
   linked n lt =
       told n (subst (λ (c : ℕ). n < c) (sym (ap length h.each_origin ∙ length-map J.makers (origin_of J.jobs))) lt)
-      ∙ (λ i. list_any (is_run_reader n) (zip (h.each_line i) (h.solved i)))
-      ∙ any_zipped (is_run_reader n) (line_of J at.settings.targets) late_now J.jobs
+      ∙ (λ i. list_any (run_state n) (zip (h.each_line i) (h.solved i)))
+      ∙ any_zipped (run_state n) (line_of J at.settings.targets) late_now J.jobs
 
   needed_same : (q : Path) → needed_told (told_parts at J ss lines origins rows used h) ss q ≡ read_by J h.served.reads runs_now J.jobs q
   needed_same q =
@@ -58,7 +58,7 @@ module _
 
   abbrev held : Job → Bool
   held k =
-      is_held_by needed (line_of J at.settings.targets k, (late_now k, (kept_now k, (read_now at J ss lines origins rows used h k, whole_outputs at.image k))))
+      held_state needed (line_of J at.settings.targets k, (late_now k, (kept_now k, (read_now at J ss lines origins rows used h k, whole_outputs at.image k))))
 
   held_same : (k : Job) → In k J.jobs → held k ≡ is_held_back at.image at.settings at.progress (with_states J ss) k
   held_same k there =
@@ -72,8 +72,8 @@ module _
       ∙ held_one at.image at.settings at.progress J at.settings.targets (told_paths at J ss lines origins rows used h) (told_parts at J ss lines origins rows used h) ss
       (map kept_now J.jobs) refl h.served h.solved solved.paths refl refl k there
 
-  pub held_are : list_any (is_held_by needed) (zip lines (zip ss (zip rows.running.now (zip used (lent rows.outputs.now))))) ≡ any_held_back at J ss
+  pub held_are : list_any (held_state needed) (zip lines (zip ss (zip rows.running.now (zip used (lent rows.outputs.now))))) ≡ any_held_back at J ss
   held_are =
-      (λ i. list_any (is_held_by needed) (zip (h.each_line i) (zip (h.solved i) (zip (h.told.running i) (zip (h.read i) (h.told.outputs i))))))
-      ∙ any_five (is_held_by needed) (line_of J at.settings.targets) late_now kept_now (read_now at J ss lines origins rows used h) (whole_outputs at.image) J.jobs
+      (λ i. list_any (held_state needed) (zip (h.each_line i) (zip (h.solved i) (zip (h.told.running i) (zip (h.read i) (h.told.outputs i))))))
+      ∙ any_five (held_state needed) (line_of J at.settings.targets) late_now kept_now (read_now at J ss lines origins rows used h) (whole_outputs at.image) J.jobs
       ∙ any_same held (is_held_back at.image at.settings at.progress (with_states J ss)) J.jobs held_same

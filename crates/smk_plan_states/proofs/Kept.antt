@@ -1,55 +1,50 @@
--- What is kept of ranks and states stays so through a step of one job.
+-- What is kept of ranks stays so through a step of one job.
 use Rattle.std.proofs.Common.{◌≡◌, ◌∙◌, ◌<◌, ℕ, length, Bool, true, false, List, [], map, refl, sym, ap, subst, Option, Some, Global}
 use Rattle.std.specs.Prelude.{slice_index_or, zip, IfSome, Vec}
 use Rattle.std.specs.List.{list_any, slice_get}
+use Rattle.smk_world.specs.Trees.{Path}
 use Rattle.smk_trigger.specs.declared.reason.State.{State}
+use Rattle.smk_chain.specs.declared.jobs.Jobs.{Jobs}
 use Rattle.smk_plan_states.specs.declared.lines.Line.{Line}
 use Rattle.smk_plan_states.specs.declared.lines.Origin.{Origin}
 use Rattle.smk_plan_states.specs.declared.ranks.Rank.{Rank}
-use Rattle.smk_plan_states.specs.declared.standing.After.{After}
+use Rattle.smk_plan_states.specs.declared.rows.Rows.{Rows}
 use Rattle.smk_plan_states.specs.declared.standing.Last.{Last}
 use Rattle.smk_plan_states.specs.declared.standing.Ranking.{Ranking}
-use Rattle.smk_plan_states.specs.declared.standing.Standing.{Standing}
-use Rattle.smk_plan_states.specs.Ranking.{is_lacking, is_read_by_child}
-use Rattle.smk_plan_states.specs.Stays.{Told, told_by, AreEarlier, AreAfter, AreBuilt, AreRowsBut, IsApart, IsStateAfter, IsUntouched, has_number, reads_of}
-use Rattle.smk_chain.specs.declared.jobs.Jobs.{Jobs}
-use Rattle.smk_plan_states.specs.declared.rows.Rows.{Rows}
-use Rattle.smk_world.specs.Trees.{Path}
 use Rattle.smk_plan_states.specs.declared.table.Table.{Table}
 use Rattle.smk_plan_states.specs.Judged.{Judging, AreStates}
 use Rattle.smk_plan_states.specs.Lines.{origin_of}
+use Rattle.smk_plan_states.specs.Moment.{IsMoment}
+use Rattle.smk_plan_states.specs.Ranks.{rank_of}
+use Rattle.smk_plan_states.specs.Ranking.{is_lacking, is_read_by_child}
 use Rattle.smk_plan_states.specs.Rows.{AreRowsAt}
 use Rattle.smk_plan_states.specs.Served.{AreServed}
+use Rattle.smk_plan_states.specs.Standing.{Follows, HasGone, IsStanding, states_by}
+use Rattle.smk_plan_states.specs.Stays.{Told, told_by, AreEarlier, AreAfter, AreRowsBut, IsApart, IsUntouched, has_number, reads_of, states_told}
 use Rattle.smk_plan_states.specs.Tables.{IsTableAt, IsTableOf}
-use Rattle.smk_plan_states.proofs.Solved.{solved}
-use Rattle.smk_plan_states.proofs.UsedBy.{used_are}
-use Rattle.smk_plan_states.specs.Moment.{IsMoment}
-use Rattle.smk_plan_states.specs.Standing.{Follows, HasGone, IsStanding}
-use Rattle.smk_plan_states.proofs.Lacking.{none_lacking}
 use Rattle.smk_laws_plan.proofs.CurrentLists.{clash_of}
-use Rattle.smk_plan_states.proofs.Steps.{got_below, ranks_are, ranks_stay, served_earlier, states_are, states_stay}
+use Rattle.smk_plan_states.proofs.Lacking.{none_lacking}
+use Rattle.smk_plan_states.proofs.Solved.{solved}
+use Rattle.smk_plan_states.proofs.Steps.{got_below, ranks_are, ranks_stay, served_earlier, states_are}
+use Rattle.smk_plan_states.proofs.UsedBy.{used_are}
 
 pub standing_stays :
-    (lines : List Line) (origins : List Origin) (before now : Told) (s t : Standing) (doubts : List Bool) (job : ℕ) (readers watchers : List ℕ) →
-    IsStanding lines origins before s → s.ranking.lacking ≡ false → AreRowsBut origins job readers before now →
+    (lines : List Line) (origins : List Origin) (before now : Told) (r t : Ranking) (doubts : List Bool) (job : ℕ) (readers watchers : List ℕ) →
+    IsStanding lines origins before r → AreRowsBut origins job readers before now →
     ((n : ℕ) (line : Line) → slice_get lines n ≡ Some line → reads_of origins job line ≡ true → has_number n watchers ≡ true) →
-    ((n : ℕ) → n < length lines → slice_index_or t.ranking.used.items n false ≡ is_read_by_child lines origins now.running n) →
-    ((n : ℕ) → n < length lines → slice_index_or doubts n false ≡ false → IsApart job readers watchers s.ranking.used.items t.ranking.used.items n) →
-    AreAfter lines origins now t.ranking.used.items doubts job s.ranking.first.items t.ranking.first.items →
-    list_any is_lacking (zip t.ranking.first.items now.outputs) ≡ false → length t.states ≡ length lines →
-    ((n : ℕ) (line : Line) → slice_get lines n ≡ Some line → IsStateAfter lines origins now t.ranking.first.items doubts s.states t.states n line) →
-    IsStanding lines origins now t
-standing_stays lines origins before now s t doubts job readers watchers old whole rows watched reading apart after lacks each states =
+    length t.used.items ≡ length lines → ((n : ℕ) → n < length lines → slice_index_or t.used.items n false ≡ is_read_by_child lines origins now.running n) →
+    ((n : ℕ) → n < length lines → slice_index_or doubts n false ≡ false → IsApart job readers watchers r.used.items t.used.items n) →
+    AreAfter lines origins now t.used.items doubts job r.first.items t.first.items →
+    list_any is_lacking (zip t.first.items now.outputs) ≡ false → t.last.items ≡ t.first.items → IsStanding lines origins now t
+standing_stays lines origins before now r t doubts job readers watchers old rows watched flags reading apart after lacks last =
     record {
       each_rank = after.each ∙ old.each_rank;
-      each_state = each;
+      each_last = ap length last ∙ after.each ∙ old.each_rank;
+      each_used = flags;
       reading = reading;
-      ranks = ranks_stay lines origins before now s.ranking.used.items t.ranking.used.items doubts s.ranking.first.items t.ranking.first.items job readers old.ranks rows after.others after.told
-          others;
+      ranks = ranks_stay lines origins before now r.used.items t.used.items doubts r.first.items t.first.items job readers old.ranks rows after.others after.told others;
       whole = λ e. lacks;
-      states = λ e.
-          states_stay lines origins before now s.ranking.used.items t.ranking.used.items doubts s.ranking.first.items t.ranking.first.items s.states t.states job readers (old.states whole) rows
-          after.others (λ n line f d alone own. (states n line f).anew d alone own) (λ n line f d. (states n line f).stays d) others;
+      last = λ e. last;
     }
   where
     unread : (n : ℕ) (line : Line) → slice_get lines n ≡ Some line → has_number n watchers ≡ false → reads_of origins job line ≡ false
@@ -59,45 +54,29 @@ standing_stays lines origins before now s t doubts job readers watchers old whol
         go false f = refl
         go true f = absurd (clash_of (has_number n watchers) (watched n line e f) none)
 
-    others : (n : ℕ) (line : Line) → slice_get lines n ≡ Some line → slice_index_or doubts n false ≡ false → IsUntouched origins job readers s.ranking.used.items t.ranking.used.items n line
+    others : (n : ℕ) (line : Line) → slice_get lines n ≡ Some line → slice_index_or doubts n false ≡ false → IsUntouched origins job readers r.used.items t.used.items n line
     others n line e d =
         let x = apart n (got_below lines n line e) d in
         record { other = x.other; no_reader = x.no_reader; unread = unread n line e x.no_watcher; reading = x.reading }
 
 pub stands_after :
-    (lines : List Line) (origins : List Origin) (now : Told) (watchers : List ℕ) (job : ℕ) (readers : List ℕ) (was used told doubts given : List Bool) (ranks : List Rank) (states : List State)
-    (ranking : Ranking) (t : Standing) (gone : After) →
-    was ≡ ranking.used.items → used ≡ t.ranking.used.items → told ≡ t.ranking.used.items → given ≡ doubts → ranks ≡ ranking.first.items → ranking.lacking ≡ false →
-    t.states ≡ gone.states → t.ranking.first.items ≡ gone.first.items →
-    ((n : ℕ) → n < length lines → slice_index_or doubts n false ≡ false → IsApart job readers watchers was used n) → HasGone lines origins now told given job ranks states gone →
-    (before : Told) (s : Standing) → s.ranking ≡ ranking → s.states ≡ states → IsStanding lines origins before s → AreRowsBut origins job readers before now →
+    (lines : List Line) (origins : List Origin) (now : Told) (watchers : List ℕ) (job : ℕ) (readers : List ℕ) (was used told doubts given : List Bool) (ranks gone : List Rank)
+    (ranking t : Ranking) →
+    was ≡ ranking.used.items → used ≡ t.used.items → told ≡ t.used.items → given ≡ doubts → ranks ≡ ranking.first.items → t.first.items ≡ gone → t.last.items ≡ t.first.items →
+    ((n : ℕ) → n < length lines → slice_index_or doubts n false ≡ false → IsApart job readers watchers was used n) → HasGone lines origins now told given job ranks gone →
+    (before : Told) → IsStanding lines origins before ranking → AreRowsBut origins job readers before now →
     ((n : ℕ) (line : Line) → slice_get lines n ≡ Some line → reads_of origins job line ≡ true → has_number n watchers ≡ true) →
-    ((n : ℕ) → n < length lines → slice_index_or t.ranking.used.items n false ≡ is_read_by_child lines origins now.running n) → IsStanding lines origins now t
-stands_after lines origins now watchers job readers was used told doubts given ranks states ranking t gone was_is used_is told_is given_is ranks_are whole t_states t_first apart went before s same same_states old rows watched reading =
-    let w : was ≡ s.ranking.used.items = was_is ∙ ap (λ (r : Ranking). r.used.items) (sym same) in
-    let f : ranks ≡ s.ranking.first.items = ranks_are ∙ ap (λ (r : Ranking). r.first.items) (sym same) in
-    standing_stays lines origins before now s t doubts job readers watchers old (ap (λ (r : Ranking). r.lacking) same ∙ whole) rows watched reading
-    (λ n lt d. subst (λ us. IsApart job readers watchers s.ranking.used.items us n) used_is (subst (λ ws. IsApart job readers watchers ws used n) w (apart n lt d)))
-    (subst (λ (first : List Rank). AreAfter lines origins now t.ranking.used.items doubts job s.ranking.first.items first) (sym t_first)
-    (subst (λ (rs : List Rank). AreAfter lines origins now t.ranking.used.items doubts job rs gone.first.items) f
-    (subst (λ ds. AreAfter lines origins now t.ranking.used.items ds job ranks gone.first.items) given_is
-    (subst (λ us. AreAfter lines origins now us given job ranks gone.first.items) told_is went.after))))
-    (ap (λ (first : List Rank). list_any is_lacking (zip first now.outputs)) t_first ∙ went.whole) (ap length t_states ∙ went.each)
-    (λ n line e.
-    subst (λ (xs : List State). IsStateAfter lines origins now t.ranking.first.items doubts s.states xs n line) (sym t_states)
-    (subst (λ (xs : List State). IsStateAfter lines origins now t.ranking.first.items doubts xs gone.states n line) (sym same_states)
-    (subst (λ (first : List Rank). IsStateAfter lines origins now first doubts states gone.states n line) (sym t_first)
-    (subst (λ ds. IsStateAfter lines origins now gone.first.items ds states gone.states n line) given_is (went.anew n line e)))))
-
--- the states by what is kept of their ranks are those of the table
-pub standing_states :
-    (at : Judging) (J : Jobs) (ss : List State) (lines : List Line) (origins : List Origin) (rows : Rows) (s : Standing) → IsMoment at J ss lines origins rows s.ranking.used.items →
-    IsStanding lines origins (told_by rows) s → s.ranking.lacking ≡ false → s.states ≡ ss
-standing_states at J ss lines origins rows s h k whole =
-    states_are at J ss lines origins rows s.ranking.used.items h s.states k.each_state
-    (subst (λ (first : List Rank). AreBuilt lines origins (told_by rows) first s.states)
-    (none_lacking at J ss lines origins rows s.ranking.used.items h s.ranking.first.items (k.whole whole) (ranks_are at J ss lines origins rows s.ranking.used.items h s.ranking.first.items k.each_rank k.ranks))
-    (k.states whole))
+    length t.used.items ≡ length lines → ((n : ℕ) → n < length lines → slice_index_or t.used.items n false ≡ is_read_by_child lines origins now.running n) → IsStanding lines origins now t
+stands_after lines origins now watchers job readers was used told doubts given ranks gone ranking t was_is used_is told_is given_is ranks_are first_is last apart went before old rows watched flags reading =
+    standing_stays lines origins before now ranking t doubts job readers watchers old rows watched flags reading
+    (λ n lt d.
+    subst (λ us. IsApart job readers watchers ranking.used.items us n) used_is (subst (λ ws. IsApart job readers watchers ws used n) was_is (apart n lt d)))
+    (subst (λ (first : List Rank). AreAfter lines origins now t.used.items doubts job ranking.first.items first) (sym first_is)
+    (subst (λ (rs : List Rank). AreAfter lines origins now t.used.items doubts job rs gone) ranks_are
+    (subst (λ ds. AreAfter lines origins now t.used.items ds job ranks gone) given_is
+    (subst (λ us. AreAfter lines origins now us given job ranks gone) told_is went.after))))
+    (ap (λ (first : List Rank). list_any is_lacking (zip first now.outputs)) first_is ∙ went.whole)
+    last
 
 -- ## By the table
 
@@ -105,35 +84,43 @@ module _
     (at : Judging) (J : Jobs) (table : Table) (lines : List Line) (origins : List Origin) (rows : Rows) (used : List Bool) (told : IsTableAt at J table) (right : AreRowsAt at J rows)
     (lines_are : lines ≡ table.lines) (origins_are : origins ≡ table.origins) (each : length used ≡ length lines)
     (reads : (n : ℕ) → n < length lines → slice_index_or used n false ≡ is_read_by_child lines origins rows.running.now n) where
-  -- there is a moment with these rows
-  pub moment : (ss : List State) × AreStates at J ss × IsMoment at J ss lines origins rows used
-  moment =
-      let s = solved at.image J at.settings.targets told.served at.settings at.progress in
+  -- states of the table make a moment with these rows
+  pub moment : (ss : List State) → AreStates at J ss → IsMoment at J ss lines origins rows used
+  moment ss solves =
       let ls = lines_are ∙ told.told.lines in
-      let os = origins_are ∙ told.told.origins in (
-        s.0,
-        s.1,
-        record {
-          served = told.served;
-          solved = s.1;
-          each_line = ls;
-          each_origin = os;
-          told = right;
-          read = used_are at J at.settings.targets told.served lines origins rows.running.now used ls os right.running each reads;
-        },
-      )
+      let os = origins_are ∙ told.told.origins in
+      record {
+        served = told.served;
+        solved = solves;
+        each_line = ls;
+        each_origin = os;
+        told = right;
+        read = used_are at J at.settings.targets told.served lines origins rows.running.now used ls os right.running each reads;
+      }
 
-  pub anew_states :
-      (states : List State) → ((at : Judging) (jobs : Jobs) (ss : List State) → IsMoment at jobs ss lines origins rows used → states ≡ ss) → AreStates at J states
-  anew_states states is = let m = moment in subst (λ (xs : List State). AreStates at J xs) (sym (is at J m.0 m.2)) m.1
+  -- where none that is Clean lacks an output the ranks that are kept are those of the states
+  pub kept_ranks :
+      (r : Ranking) → r.used.items ≡ used → IsStanding lines origins (told_by rows) r → r.lacking ≡ false → (ss : List State) → AreStates at J ss → r.last.items ≡ map rank_of ss
+  kept_ranks r same stands whole ss solves =
+      let h : IsMoment at J ss lines origins rows r.used.items = subst (λ us. IsMoment at J ss lines origins rows us) (sym same) (moment ss solves) in
+      stands.last whole
+      ∙ none_lacking at J ss lines origins rows r.used.items h r.first.items (stands.whole whole)
+      (ranks_are at J ss lines origins rows r.used.items h r.first.items stands.each_rank stands.ranks)
 
-  -- where none that is Clean lacks an output
-  pub kept_states :
-      (s : Standing) → s.ranking.used.items ≡ used → IsStanding lines origins (told_by rows) s → s.ranking.lacking ≡ false → AreStates at J s.states
-  kept_states s same stands whole =
-      let m = moment in
-      subst (λ (xs : List State). AreStates at J xs)
-      (sym (standing_states at J m.0 lines origins rows s (subst (λ us. IsMoment at J m.0 lines origins rows us) (sym same) m.2) stands whole)) m.1
+-- the states by ranks that are those of the states of the table are these
+pub table_states :
+    (at : Judging) (J : Jobs) (table : Table) (lines : List Line) (origins : List Origin) (rows : Rows) (used : List Bool) (r : Ranking) → IsTableAt at J table → AreRowsAt at J rows →
+    lines ≡ table.lines → origins ≡ table.origins → length used ≡ length lines →
+    ((n : ℕ) → n < length lines → slice_index_or used n false ≡ is_read_by_child lines origins rows.running.now n) →
+    ((ss : List State) → AreStates at J ss → r.last.items ≡ map rank_of ss) → AreStates at J (states_by table (told_by rows) r)
+table_states at J table lines origins rows used r told right ls os each reads ranked =
+    let s = solved at.image J at.settings.targets told.served at.settings at.progress in
+    let h : IsMoment at J s.0 lines origins rows used = moment at J table lines origins rows used told right ls os each reads s.0 s.1 in
+    subst (λ (xs : List State). AreStates at J xs)
+    (sym
+    ((λ i. states_told (sym ls i) (sym os i) (told_by rows) (ranked s.0 s.1 i))
+    ∙ states_are at J s.0 lines origins rows used h))
+    s.1
 
 pub earlier_lines : (J : Jobs) (asked : List Path) (table : Table) → IsTableOf J asked table → AreServed J asked → AreEarlier table.lines table.origins
 earlier_lines J asked table told served =
@@ -141,52 +128,53 @@ earlier_lines J asked table told served =
     (subst (λ (ls : List Line). AreEarlier ls (map (origin_of J.jobs) J.makers)) (sym told.lines) (served_earlier J asked served))
 
 pub anew_standing :
-    (J : Jobs) (asked : List Path) (table : Table) (lines : List Line) (origins : List Origin) (rows : Rows) (used : List Bool) (s : Standing) → IsTableOf J asked table → AreServed J asked →
-    lines ≡ table.lines → origins ≡ table.origins → ((n : ℕ) → n < length lines → slice_index_or used n false ≡ is_read_by_child lines origins rows.running.now n) →
-    (AreEarlier lines origins → ((n : ℕ) → n < length lines → slice_index_or used n false ≡ is_read_by_child lines origins rows.running.now n) → IsStanding lines origins (told_by rows) s) →
-    IsStanding table.lines table.origins (told_by rows) s
-anew_standing J asked table lines origins rows used s told served ls os reads stands =
-    subst (λ (xs : List Origin). IsStanding table.lines xs (told_by rows) s) os
-    (subst (λ (xs : List Line). IsStanding xs origins (told_by rows) s) ls
+    (J : Jobs) (asked : List Path) (table : Table) (lines : List Line) (origins : List Origin) (rows : Rows) (used : List Bool) (r : Ranking) → IsTableOf J asked table → AreServed J asked →
+    lines ≡ table.lines → origins ≡ table.origins → length used ≡ length lines →
+    ((n : ℕ) → n < length lines → slice_index_or used n false ≡ is_read_by_child lines origins rows.running.now n) →
+    (AreEarlier lines origins → length used ≡ length lines → ((n : ℕ) → n < length lines → slice_index_or used n false ≡ is_read_by_child lines origins rows.running.now n) → IsStanding lines origins (told_by rows) r) →
+    IsStanding table.lines table.origins (told_by rows) r
+anew_standing J asked table lines origins rows used r told served ls os each reads stands =
+    subst (λ (xs : List Origin). IsStanding table.lines xs (told_by rows) r) os
+    (subst (λ (xs : List Line). IsStanding xs origins (told_by rows) r) ls
     (stands
     (subst (λ (xs : List Origin). AreEarlier lines xs) (sym os) (subst (λ (xs : List Line). AreEarlier xs table.origins) (sym ls) (earlier_lines J asked table told served)))
-    reads))
+    each reads))
+
+abbrev pub IsLedTo : List Line → List Origin → Rows → Vec Bool Global → List ℕ → Last → Ranking → Type 0
+IsLedTo lines origins rows used watchers last now =
+    (before : Told) → IsStanding lines origins before last.ranking.now → AreRowsBut origins last.job last.readers.now before (told_by rows) →
+    ((n : ℕ) (line : Line) → slice_get lines n ≡ Some line → reads_of origins last.job line ≡ true → has_number n watchers ≡ true) →
+    length used.items ≡ length lines → ((n : ℕ) → n < length lines → slice_index_or used.items n false ≡ is_read_by_child lines origins rows.running.now n) →
+    IsStanding lines origins (told_by rows) now
 
 -- what follows stands by the table
 pub follow_standing :
-    (J : Jobs) (asked : List Path) (table : Table) (lines : List Line) (origins : List Origin) (rows : Rows) (used : List Bool) (last : Last) (all : List (List ℕ)) (watchers : List ℕ) (t : Standing) →
-    IsTableOf J asked table → lines ≡ table.lines → origins ≡ table.origins → all ≡ table.watchers.items → watchers ≡ slice_index_or all last.job [] → last.job < length lines →
-    ((n : ℕ) → n < length lines → slice_index_or used n false ≡ is_read_by_child lines origins rows.running.now n) →
-    ((before : Told) (s : Standing) → s.ranking ≡ last.ranking.now → s.states ≡ last.states.now → IsStanding lines origins before s → AreRowsBut origins last.job last.readers.now before (told_by rows) →
-    ((n : ℕ) (line : Line) → slice_get lines n ≡ Some line → reads_of origins last.job line ≡ true → has_number n watchers ≡ true) →
-    ((n : ℕ) → n < length lines → slice_index_or used n false ≡ is_read_by_child lines origins rows.running.now n) → IsStanding lines origins (told_by rows) t) →
+    (J : Jobs) (asked : List Path) (table : Table) (lines : List Line) (origins : List Origin) (rows : Rows) (used : Vec Bool Global) (last : Last) (all : List (List ℕ)) (watchers : List ℕ)
+    (t : Ranking) →
+    IsTableOf J asked table → lines ≡ table.lines → origins ≡ table.origins → all ≡ table.watchers.items → watchers ≡ slice_index_or all last.job [] → last.job < length lines → length used.items ≡ length lines →
+    ((n : ℕ) → n < length lines → slice_index_or used.items n false ≡ is_read_by_child lines origins rows.running.now n) → IsLedTo lines origins rows used watchers last t →
     Follows table.lines table.origins (Some last) (told_by rows) → IsStanding lines origins (told_by rows) t
-follow_standing J asked table lines origins rows used last all watchers t told ls os all_is row within reads stands (before, s, same, states, stood, but) =
-    stands before s same states
-    (subst (λ (xs : List Line). IsStanding xs origins before s) (sym ls) (subst (λ (xs : List Origin). IsStanding table.lines xs before s) (sym os) stood))
+follow_standing J asked table lines origins rows used last all watchers t told ls os all_is row within each reads stands (before, stood, but) =
+    stands before
+    (subst (λ (xs : List Line). IsStanding xs origins before last.ranking.now) (sym ls)
+    (subst (λ (xs : List Origin). IsStanding table.lines xs before last.ranking.now) (sym os) stood))
     (subst (λ (xs : List Origin). AreRowsBut xs last.job last.readers.now before (told_by rows)) (sym os) but)
     (λ n line e r.
     ap (has_number n) (row ∙ ap (λ (xs : List (List ℕ)). slice_index_or xs last.job []) all_is)
     ∙ told.watched.each n line last.job (subst (λ (xs : List Line). last.job < length xs) ls within) (ap (λ (xs : List Line). slice_get xs n) (sym ls) ∙ e)
     (ap (λ (xs : List Origin). reads_of xs last.job line) (sym os) ∙ r))
-    reads
+    each reads
 
 -- ## What an answer gives, where there is one
 
-abbrev pub IsKeptBy : List Line → Vec Bool Global → Last → Standing → Type 0
-IsKeptBy lines used last now = (now.ranking.used ≡ used) × (now.ranking.lacking ≡ false) × (length now.states ≡ length lines) × (last.job < length lines)
+abbrev pub IsKeptBy : List Line → Vec Bool Global → Last → Ranking → Type 0
+IsKeptBy lines used last now = (now.used ≡ used) × (now.lacking ≡ false) × (length now.last.items ≡ length lines) × (last.job < length lines)
 
 pub some_kept :
-    (found : Option Standing) (now : Standing) (lines : List Line) (used : Vec Bool Global) (last : Last) → found ≡ Some now → IfSome found (IsKeptBy lines used last) → IsKeptBy lines used last now
-some_kept found now lines used last is kept = subst (λ (o : Option Standing). IfSome o (IsKeptBy lines used last)) is kept
-
-abbrev pub IsLedTo : List Line → List Origin → Rows → Vec Bool Global → List ℕ → Last → Standing → Type 0
-IsLedTo lines origins rows used watchers last now =
-    (before : Told) (s : Standing) → s.ranking ≡ last.ranking.now → s.states ≡ last.states.now → IsStanding lines origins before s → AreRowsBut origins last.job last.readers.now before (told_by rows) →
-    ((n : ℕ) (line : Line) → slice_get lines n ≡ Some line → reads_of origins last.job line ≡ true → has_number n watchers ≡ true) →
-    ((n : ℕ) → n < length lines → slice_index_or used.items n false ≡ is_read_by_child lines origins rows.running.now n) → IsStanding lines origins (told_by rows) now
+    (found : Option Ranking) (now : Ranking) (lines : List Line) (used : Vec Bool Global) (last : Last) → found ≡ Some now → IfSome found (IsKeptBy lines used last) → IsKeptBy lines used last now
+some_kept found now lines used last is kept = subst (λ (o : Option Ranking). IfSome o (IsKeptBy lines used last)) is kept
 
 pub some_stands :
-    (found : Option Standing) (now : Standing) (lines : List Line) (origins : List Origin) (rows : Rows) (used : Vec Bool Global) (watchers : List ℕ) (last : Last) → found ≡ Some now →
+    (found : Option Ranking) (now : Ranking) (lines : List Line) (origins : List Origin) (rows : Rows) (used : Vec Bool Global) (watchers : List ℕ) (last : Last) → found ≡ Some now →
     IfSome found (IsLedTo lines origins rows used watchers last) → IsLedTo lines origins rows used watchers last now
-some_stands found now lines origins rows used watchers last is stands = subst (λ (o : Option Standing). IfSome o (IsLedTo lines origins rows used watchers last)) is stands
+some_stands found now lines origins rows used watchers last is stands = subst (λ (o : Option Ranking). IfSome o (IsLedTo lines origins rows used watchers last)) is stands

@@ -25,7 +25,8 @@ use Rattle.smk_plan_states.specs.Lines.{output_of}
 use Rattle.smk_plan_states.specs.Rows.{lent}
 use Rattle.smk_plan_states.specs.Moment.{IsMoment}
 use Rattle.smk_plan_states.specs.Ranks.{rank_of, is_clean_rank}
-use Rattle.smk_plan_states.specs.Ranking.{lacks, is_lacking, is_lent_lacking}
+use Rattle.smk_plan_states.specs.Ranking.{lacks, is_lacking}
+use Rattle.smk_plan_states.proofs.ByState.{lent_state}
 use Rattle.smk_laws_plan.proofs.CurrentLists.{In, any_from, clash_of}
 use Rattle.smk_laws_plan.proofs.CurrentRecipes.{map_same}
 use Rattle.smk_laws_plan.proofs.PlanStates.{any_same}
@@ -113,21 +114,21 @@ module _
           (is_solved at J ss lines origins rows used h) p.0 k p.1 p.2 needs (λ q. refl)
 
   -- no job is held back
-  pub none_held : list_any is_lent_lacking (zip ss (zip used (lent rows.outputs.now))) ≡ false → any_held_back at J ss ≡ false
+  pub none_held : list_any lent_state (zip ss (zip used (lent rows.outputs.now))) ≡ false → any_held_back at J ss ≡ false
   none_held quiet =
       any_same (is_held_back at.image at.settings at.progress (with_states J ss)) (λ j. false) J.jobs one ∙ any_never J.jobs
     where
-      calm : list_any (λ j. is_lent_lacking (late j, (reads j, whole_outputs at.image j))) J.jobs ≡ false
+      calm : list_any (λ j. lent_state (late j, (reads j, whole_outputs at.image j))) J.jobs ≡ false
       calm =
           sym (three J.jobs)
-          ∙ (λ i. list_any is_lent_lacking (zip (sym h.solved i) (zip (sym h.read i) (sym h.told.outputs i))))
+          ∙ (λ i. list_any lent_state (zip (sym h.solved i) (zip (sym h.read i) (sym h.told.outputs i))))
           ∙ quiet
         where
           three :
               (js : List Job) →
-              list_any is_lent_lacking (zip (map late js) (zip (map reads js) (map (whole_outputs at.image) js))) ≡ list_any (λ j. is_lent_lacking (late j, (reads j, whole_outputs at.image j))) js
+              list_any lent_state (zip (map late js) (zip (map reads js) (map (whole_outputs at.image) js))) ≡ list_any (λ j. lent_state (late j, (reads j, whole_outputs at.image j))) js
           three [] = refl
-          three (j ∷ js) = ap (λ b. is_lent_lacking (late j, (reads j, whole_outputs at.image j)) || b) (three js)
+          three (j ∷ js) = ap (λ b. lent_state (late j, (reads j, whole_outputs at.image j)) || b) (three js)
 
       never : (n c r l w : Bool) → (c && (r && l)) ≡ false → (l ≡ false → w ≡ false) → ((n && c) && (r && w)) ≡ false
       never false c r l w h f = refl
@@ -151,4 +152,4 @@ module _
           (map kept J.jobs) refl h.served h.solved solved.paths refl refl k i)
           ∙ (λ m. (is_none (kept k) && is_clean (late k)) && (used_told at J ss lines origins rows used h k i m && wanted))
           ∙ never (is_none (kept k)) (is_clean (late k)) (reads k) (lacks (whole_outputs at.image k)) wanted
-          (none_in (λ j. is_lent_lacking (late j, (reads j, whole_outputs at.image j))) J.jobs k calm i) whole
+          (none_in (λ j. lent_state (late j, (reads j, whole_outputs at.image j))) J.jobs k calm i) whole

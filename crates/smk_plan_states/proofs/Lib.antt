@@ -21,3 +21,5 @@ mod Steps
 mod Kept
 mod LookUps
 pub mod Linked
+pub mod ByState
+pub mod Counts

@@ -3,7 +3,7 @@ use Rattle.std.proofs.Common.{◌≡◌, ◌∙◌, ◌<◌, ◌≤◌, ◌+◌,
 use Rattle.std.specs.Prelude.{nat_eq, slice_index_or, if◌then◌else◌, IfOk, Result, Ok, Err}
 use Rattle.std.specs.List.{list_any, slice_get}
 use Rattle.std.specs.Option.{option_and_then}
-use Rattle.smk_world.specs.Trees.{Path, Each}
+use Rattle.smk_world.specs.Trees.{Path, Each, among}
 use Rattle.smk_world.specs.World.{in_paths}
 use Rattle.smk_flow.specs.declared.job.Job.{Job}
 use Rattle.smk_chain.specs.declared.jobs.Jobs.{Jobs}
@@ -28,9 +28,9 @@ use Rattle.smk_plan_states.specs.Lines.{tells_of, link_to, origin_of, inputs_fro
 use Rattle.smk_plan_states.specs.Moment.{IsMoment}
 use Rattle.smk_plan_states.specs.Rows.{lent}
 use Rattle.smk_plan_states.specs.Ranks.{rank_of, rank_at, is_open_rank, is_dirty_rank, is_clean_rank, by_rank, rank_while_running, state_by}
-use Rattle.smk_plan_states.specs.Spots.{maker_at, spot_of}
-use Rattle.smk_plan_states.specs.Ranking.{has_any, reading_opens_by, gathering_opens_by, input_opens, gathered_opens, is_upstream, is_kept_by, first_rank, is_link, upstream_paths}
-use Rattle.smk_plan_states.specs.Stays.{Told, told_by, spot_told, rank_told, OfSome, OfLine, IsByEarlier, AreEarlier, IsBuiltAt, AreBuilt, AreFirst, AreRowsBut, IsStateAfter, IsUntouched, has_number, is_made_by, reads_of}
+use Rattle.smk_plan_states.specs.Spots.{origin_at, maker_at, over_flag, spot_of, spot_in}
+use Rattle.smk_plan_states.specs.Ranking.{has_any, reading_opens_by, gathering_opens_by, input_opens, gathered_opens, opens_by, is_upstream, dirties_by, is_kept_by, table_rank, first_rank, is_link, upstream_paths}
+use Rattle.smk_plan_states.specs.Stays.{Told, told_by, spot_told, rank_told, OfSome, OfLine, IsByEarlier, AreEarlier, AreFirst, AreRowsBut, IsUntouched, alone_in, but_last, has_number, is_made_by, reads_of, state_told, states_from, states_told}
 use Rattle.std.proofs.lemmas.List.{map-append, length-map, take_all, append_cancel_right}
 use Rattle.std.proofs.lemmas.Option.{slice_get-map, get_or_from_slice_get}
 use Rattle.std.proofs.lemmas.Bool.{eqb-true, eqb-false, eq-eqb}
@@ -345,72 +345,55 @@ all_lines lines P number done so_far n line e = let lt = got_below lines n line 
 
 -- ## States
 
-module _
-    (v u : List Rank) (origins : List Origin) (job : ℕ) (agree : (m : ℕ) → (m == job) ≡ false → slice_get v m ≡ slice_get u m) where
-  ranks_alike : (o : Option ℕ) → is_link job o ≡ false → rank_at v o ≡ rank_at u o
-  ranks_alike None e = refl
-  ranks_alike (Some m) e = agree m e
+pub states_long : (origins : List Origin) (rows : Told) (ranks : List Rank) (k : ℕ) (lines : List Line) → length (states_from origins rows ranks k lines) ≡ length lines
+states_long origins rows ranks k [] = refl
+states_long origins rows ranks k (line ∷ lines) = ap suc (states_long origins rows ranks (suc k) lines)
 
-  -- the inputs whose job is Dirty are the same, where none is made by the job
-  upstreams_alike : (inputs : List Input) → list_any (λ (i : Input). is_made_by origins job i.link) inputs ≡ false → upstream_paths v origins inputs ≡ upstream_paths u origins inputs
-  upstreams_alike [] e = refl
-  upstreams_alike (input ∷ inputs) e =
-      let both = or_false (is_made_by origins job input.link) (list_any (λ (i : Input). is_made_by origins job i.link) inputs) e in
-      let one : is_upstream v origins input ≡ is_upstream u origins input =
-      ap (λ (r : Option Rank). not input.again && test_some is_dirty_rank r) (ranks_alike (maker_at origins input.link) both.0) in
-      let more = upstreams_alike inputs both.1 in
-      ap (λ b. map (λ (i : Input). i.path) (if b then input ∷ filter (is_upstream v origins) inputs else filter (is_upstream v origins) inputs)) one
-      ∙ go (is_upstream u origins input) more
-    where
-      go :
-          (b : Bool) → map (λ (i : Input). i.path) (filter (is_upstream v origins) inputs) ≡ map (λ (i : Input). i.path) (filter (is_upstream u origins) inputs) →
-          map (λ (i : Input). i.path) (if b then input ∷ filter (is_upstream v origins) inputs else filter (is_upstream v origins) inputs)
-          ≡ map (λ (i : Input). i.path) (if b then input ∷ filter (is_upstream u origins) inputs else filter (is_upstream u origins) inputs)
-      go true ih = ap (λ ps. input.path ∷ ps) ih
-      go false ih = ih
+-- the state of the number is that of its line
+pub state_at :
+    (origins : List Origin) (rows : Told) (ranks : List Rank) (k : ℕ) (lines : List Line) (n : ℕ) (line : Line) → slice_get lines n ≡ Some line →
+    slice_get (states_from origins rows ranks k lines) n ≡ Some (state_told origins rows ranks (k + n) line)
+state_at origins rows ranks k [] n line e = absurd (none_some None line refl e)
+state_at origins rows ranks k (x ∷ lines) zero line e =
+    let same : k ≡ k + 0 = omega arith in
+    λ i. Some (state_told origins rows ranks (same i) (some_inj x line e i))
+state_at origins rows ranks k (x ∷ lines) (suc n) line e =
+    let same : suc k + n ≡ k + suc n = omega arith in
+    state_at origins rows ranks (suc k) lines n line e ∙ ap (λ m. Some (state_told origins rows ranks m line)) same
 
--- the states stay, where each that is doubted is made anew
-pub states_stay :
-    (lines : List Line) (origins : List Origin) (before now : Told) (was used doubts : List Bool) (u v : List Rank) (ss found : List State) (job : ℕ) (readers : List ℕ) →
-    AreBuilt lines origins before u ss → AreRowsBut origins job readers before now → ((m : ℕ) → (m == job) ≡ false → slice_get v m ≡ slice_get u m) →
-    ((n : ℕ) (line : Line) → slice_get lines n ≡ Some line → slice_index_or doubts n false ≡ true → (alone : List Reason) →
-    slice_index_or now.reasons n [] ≡ alone ++ when (slice_index_or now.forced n false) Forced →
-    slice_get found n
-    ≡ Some
-    (state_by (slice_index_or now.running n None) (slice_index_or v n AtOpen)
-    (alone ++ (map Upstream (upstream_paths v origins line.inputs) ++ when (slice_index_or now.forced n false) Forced)))) →
-    ((n : ℕ) (line : Line) → slice_get lines n ≡ Some line → slice_index_or doubts n false ≡ false → slice_get found n ≡ slice_get ss n) →
-    ((n : ℕ) (line : Line) → slice_get lines n ≡ Some line → slice_index_or doubts n false ≡ false → IsUntouched origins job readers was used n line) →
-    AreBuilt lines origins now v found
-states_stay lines origins before now was used doubts u v ss found job readers built rows agree anew stays others = record { each = each }
-  where
-    each :
-        (n : ℕ) (line : Line) → slice_get lines n ≡ Some line → (alone : List Reason) →
-        slice_index_or now.reasons n [] ≡ alone ++ when (slice_index_or now.forced n false) Forced →
-        slice_get found n
-        ≡ Some
-        (state_by (slice_index_or now.running n None) (slice_index_or v n AtOpen)
-        (alone ++ (map Upstream (upstream_paths v origins line.inputs) ++ when (slice_index_or now.forced n false) Forced)))
-    each n line e alone own = go (slice_index_or doubts n false) refl
-      where
-        go :
-            (b : Bool) → slice_index_or doubts n false ≡ b →
-            slice_get found n
-            ≡ Some
-            (state_by (slice_index_or now.running n None) (slice_index_or v n AtOpen)
-            (alone ++ (map Upstream (upstream_paths v origins line.inputs) ++ when (slice_index_or now.forced n false) Forced)))
-        go true d = anew n line e d alone own
-        go false d =
-            let x = others n line e d in
-            let links = or_false (list_any (λ (i : Input). is_made_by origins job i.link) line.inputs) (list_any (λ (g : Gathered). is_made_by origins job g.link) line.gathers) x.unread in
-            let forced = index_alike now.forced before.forced n false (rows.forced n x.other) in
-            let run = index_alike now.running before.running n None (rows.running n x.other) in
-            let rank = index_alike v u n AtOpen (agree n x.other) in
-            let ups = upstreams_alike v u origins job agree line.inputs links.0 in
-            let own_before : slice_index_or before.reasons n [] ≡ alone ++ when (slice_index_or before.forced n false) Forced =
-            sym (index_alike now.reasons before.reasons n [] (rows.reasons n x.other x.no_reader)) ∙ own ∙ ap (λ b. alone ++ when b Forced) forced in
-            stays n line e d ∙ built.each n line e alone own_before
-            ∙ sym (λ i. Some (state_by (run i) (rank i) (alone ++ (map Upstream (ups i) ++ when (forced i) Forced))))
+pub state_there :
+    (lines : List Line) (origins : List Origin) (rows : Told) (ranks : List Rank) (n : ℕ) (line : Line) → slice_get lines n ≡ Some line →
+    slice_get (states_told lines origins rows ranks) n ≡ Some (state_told origins rows ranks n line)
+state_there lines origins rows ranks n line e =
+    let plain : 0 + n ≡ n = omega arith in
+    state_at origins rows ranks 0 lines n line e ∙ ap (λ m. Some (state_told origins rows ranks m line)) plain
+
+-- beyond the lines there is none
+pub state_beyond :
+    (origins : List Origin) (rows : Told) (ranks : List Rank) (k : ℕ) (lines : List Line) (n : ℕ) → slice_get lines n ≡ None →
+    slice_get (states_from origins rows ranks k lines) n ≡ None
+state_beyond origins rows ranks k [] n e = refl
+state_beyond origins rows ranks k (x ∷ lines) zero e = absurd (none_some None x refl (sym e))
+state_beyond origins rows ranks k (x ∷ lines) (suc n) e = state_beyond origins rows ranks (suc k) lines n e
+
+but_last_is : (xs : List Reason) (x : Reason) → but_last (xs ++ x ∷ []) ≡ xs
+but_last_is [] x = refl
+but_last_is (y ∷ []) x = refl
+but_last_is (y ∷ z ∷ xs) x = ap (λ ys. y ∷ ys) (but_last_is (z ∷ xs) x)
+
+nothing_more : (xs : List Reason) → xs ++ [] ≡ xs
+nothing_more [] = refl
+nothing_more (x ∷ xs) = ap (λ ys. x ∷ ys) (nothing_more xs)
+
+-- the reasons without Forced, where it stands last
+pub alone_is : (forced : Bool) (alone : List Reason) → alone_in forced (alone ++ when forced Forced) ≡ alone
+alone_is true alone = but_last_is alone Forced
+alone_is false alone = nothing_more alone
+
+-- so they are all but the last
+pub alone_off : (forced : Bool) (own alone : List Reason) (x : Reason) → forced ≡ true → own ≡ alone ++ x ∷ [] → alone ≡ alone_in forced own
+alone_off true own alone x e h = sym (but_last_is alone x) ∙ ap but_last (sym h)
+alone_off false own alone x e h = absurd (true≢false (sym e))
 
 all_alike : {A : Type 0} (xs ys : List A) → length xs ≡ length ys → ((n : ℕ) → n < length xs → slice_get xs n ≡ slice_get ys n) → xs ≡ ys
 all_alike [] [] e h = refl
@@ -464,57 +447,32 @@ module _
             (own_of at.image at.settings at.progress J k ++ (map Upstream (upstream_paths (map rank_of ss) (h.each_origin i) (line_is i).inputs) ++ when (forced i) Forced)));
       }
 
-  -- the states of the table are those of their ranks
-  pub states_told : AreBuilt lines origins (told_by rows) (map rank_of ss) ss
-  states_told =
-      record {
-        each = λ n line e alone own.
-            let x = at_number n line e in
-            let same : alone ≡ own_of at.image at.settings at.progress J x.job =
-            append_cancel_right alone (own_of at.image at.settings at.progress J x.job) (when (slice_index_or rows.forced.now n false) Forced) (sym own ∙ x.alone) in
-            x.state ∙ ap Some x.made
-            ∙ ap
-            (λ (own : List Reason).
-            Some
-            (state_by (slice_index_or rows.running.now n None) (slice_index_or (map rank_of ss) n AtOpen)
-            (own ++ (map Upstream (upstream_paths (map rank_of ss) origins line.inputs) ++ when (slice_index_or rows.forced.now n false) Forced))))
-            (sym same);
-      }
-
-  -- and no others are
-  pub states_are : (found : List State) → length found ≡ length lines → AreBuilt lines origins (told_by rows) (map rank_of ss) found → found ≡ ss
-  states_are found long built =
-      all_alike found ss (long ∙ size at J ss lines origins rows used h ∙ sym (ap length h.solved ∙ length-map J.jobs (state_of at.image at.settings at.progress (with_states J ss)))) one
+  -- the states by the ranks of the table's states are those
+  pub states_are : states_told lines origins (told_by rows) (map rank_of ss) ≡ ss
+  states_are =
+      all_alike (states_told lines origins (told_by rows) (map rank_of ss)) ss (long ∙ size at J ss lines origins rows used h ∙ sym (ap length h.solved ∙ length-map J.jobs (state_of at.image at.settings at.progress (with_states J ss)))) one
     where
-      one : (n : ℕ) → n < length found → slice_get found n ≡ slice_get ss n
+      long : length (states_told lines origins (told_by rows) (map rank_of ss)) ≡ length lines
+      long = states_long origins (told_by rows) (map rank_of ss) 0 lines
+
+      one : (n : ℕ) → n < length (states_told lines origins (told_by rows) (map rank_of ss)) → slice_get (states_told lines origins (told_by rows) (map rank_of ss)) n ≡ slice_get ss n
       one n lt =
-          let l = split_at lines n (omega (arith, lt, long)) in
+          let l = split_at lines n (subst (λ (c : ℕ). n < c) (states_long origins (told_by rows) (map rank_of ss) 0 lines) lt) in
           let e : slice_get lines n ≡ Some l.0 = ap (λ (ls : List Line). slice_get ls n) l.1 ∙ there (take n lines) l.0 (drop (suc n) lines) n l.2 in
           let x = at_number n l.0 e in
-          built.each n l.0 e (own_of at.image at.settings at.progress J x.job) x.alone ∙ ap Some (sym x.made) ∙ sym x.state
-
--- one state more
-pub state_more :
-    (lines : List Line) (origins : List Origin) (rows : Told) (ranks : List Rank) (doubts : List Bool) (before : List State) (number : ℕ) (line : Line) (state : State) (found new : List State) →
-    number < length lines → line ≡ get_or lines number line → length found ≡ number → new ≡ found ++ state ∷ [] →
-    (slice_index_or doubts number false ≡ true → (alone : List Reason) →
-    slice_index_or rows.reasons number [] ≡ alone ++ when (slice_index_or rows.forced number false) Forced →
-    state
-    ≡ state_by (slice_index_or rows.running number None) (slice_index_or ranks number AtOpen)
-    (alone ++ (map Upstream (upstream_paths ranks origins line.inputs) ++ when (slice_index_or rows.forced number false) Forced))) →
-    (slice_index_or doubts number false ≡ false → slice_get before number ≡ Some state) →
-    ((n : ℕ) (line : Line) → n < number → slice_get lines n ≡ Some line → IsStateAfter lines origins rows ranks doubts before found n line) →
-    (n : ℕ) (line : Line) → n < number + 1 → slice_get lines n ≡ Some line → IsStateAfter lines origins rows ranks doubts before new n line
-state_more lines origins rows ranks doubts before number line state found new within is long made anew stays so_far =
-    one_more lines (IsStateAfter lines origins rows ranks doubts before new) number line within is
-    (record { anew = λ d alone own. here ∙ ap Some (anew d alone own); stays = λ d. here ∙ sym (stays d) })
-    (λ n l lt e.
-    let x = so_far n l lt e in
-    let same : slice_get new n ≡ slice_get found n = ap (λ (xs : List State). slice_get xs n) made ∙ front_alike found (state ∷ []) n (omega (arith, lt, long)) in
-    record { anew = λ d alone own. same ∙ x.anew d alone own; stays = λ d. same ∙ x.stays d })
-  where
-    here : slice_get new number ≡ Some state
-    here = ap (λ (xs : List State). slice_get xs number) made ∙ there found state [] number long
+          let forced = slice_index_or rows.forced.now n false in
+          let alone : alone_in forced (slice_index_or (lent rows.reasons.now) n []) ≡ own_of at.image at.settings at.progress J x.job =
+          ap (alone_in forced) x.alone ∙ alone_is forced (own_of at.image at.settings at.progress J x.job) in
+          let plain : 0 + n ≡ n = omega arith in
+          state_at origins (told_by rows) (map rank_of ss) 0 lines n l.0 e
+          ∙ ap (λ m. Some (state_told origins (told_by rows) (map rank_of ss) m l.0)) plain
+          ∙ ap
+          (λ (own : List Reason).
+          Some
+          (state_by (slice_index_or rows.running.now n None) (slice_index_or (map rank_of ss) n AtOpen)
+          (own ++ (map Upstream (upstream_paths (map rank_of ss) origins l.0.inputs) ++ when forced Forced))))
+          alone
+          ∙ ap Some (sym x.made) ∙ sym x.state
 
 -- one line more is watched
 pub watched_more :
@@ -600,26 +558,3 @@ served_earlier J asked served n line e =
       inputs_below J n (job_path k) [] (in_paths k.recipe) (each_front (IsReadOf J n) (in_paths k.recipe) (gathers_from k) reads),
       gathers_below J n (gathers_from k) (each_back (IsReadOf J n) (in_paths k.recipe) (gathers_from k) reads),
     )
-
--- one state more, by its rank
-pub built_more :
-    (lines : List Line) (origins : List Origin) (rows : Told) (ranks : List Rank) (number : ℕ) (line : Line) (inputs : List Input) (force : Bool) (own : List Reason) (begun : Option State) (rank : Rank) (state : State) (found new : List State) →
-    number < length lines → line ≡ get_or lines number line → inputs ≡ line.inputs → force ≡ get_or rows.forced number false → own ≡ get_or rows.reasons number [] →
-    begun ≡ get_or rows.running number None → rank ≡ get_or ranks number AtOpen →
-    ((alone : List Reason) → own ≡ alone ++ when force Forced → state ≡ state_by begun rank (alone ++ (map Upstream (upstream_paths ranks origins inputs) ++ when force Forced))) →
-    new ≡ found ++ state ∷ [] → length found ≡ number →
-    ((n : ℕ) (line : Line) → n < number → slice_get lines n ≡ Some line → IsBuiltAt origins rows ranks found n line) →
-    (n : ℕ) (line : Line) → n < number + 1 → slice_get lines n ≡ Some line → IsBuiltAt origins rows ranks new n line
-built_more lines origins rows ranks number line inputs force own begun rank state found new within is ins f o b r made n_is long so_far =
-    one_more lines (IsBuiltAt origins rows ranks new) number line within is
-    (λ alone h.
-    ap (λ (xs : List State). slice_get xs number) n_is ∙ there found state [] number long
-    ∙ ap Some
-    (made alone (o ∙ h ∙ ap (λ x. alone ++ when x Forced) (sym f))
-    ∙ (λ i. state_by (b i) (r i) (alone ++ (map Upstream (upstream_paths ranks origins (ins i)) ++ when (f i) Forced)))))
-    (λ n l lt e alone h. ap (λ (xs : List State). slice_get xs n) n_is ∙ front_alike found (state ∷ []) n (omega (arith, lt, long)) ∙ so_far n l lt e alone h)
-
--- what is so of an answer leads to another
-pub where_ok : {T E : Type 0} {P Q : T → Type 0} (r : Result T E) → ((x : T) → P x → Q x) → IfOk r P → IfOk r Q
-where_ok (Ok x) leads fact = leads x fact
-where_ok (Err e) leads fact = tt

@@ -4,7 +4,6 @@ use Rattle.std.specs.List.{list_any}
 use Rattle.smk_world.specs.Trees.{Path}
 use Rattle.smk_trigger.specs.declared.reason.Reason.{Reason}
 use Rattle.smk_trigger.specs.declared.reason.State.{State}
-use Rattle.smk_trigger.specs.JobStates.{is_clean, is_to_run}
 use Rattle.smk_plan.specs.States.{test_some}
 use Rattle.smk_plan_states.specs.declared.lines.Awaited.{Awaited}
 use Rattle.smk_plan_states.specs.declared.lines.Gathered.{Gathered}
@@ -16,7 +15,7 @@ use Rattle.smk_plan_states.specs.declared.ranks.Rank.{Rank}
 use Rattle.smk_plan_states.specs.declared.ranks.Rank.TheVariants.{Open as AtOpen}
 use Rattle.smk_plan_states.specs.declared.rows.Rows.{Rows}
 use Rattle.smk_plan_states.specs.declared.spots.Spot.{Spot}
-use Rattle.smk_plan_states.specs.Ranks.{rank_at, by_rank, is_open_rank, is_dirty_rank, is_clean_rank, rank_while_running, unless_needed_rank}
+use Rattle.smk_plan_states.specs.Ranks.{rank_at, by_rank, is_open_rank, is_dirty_rank, is_clean_rank, is_to_run_rank, rank_while_running, unless_needed_rank}
 use Rattle.smk_plan_states.specs.Rows.{lent}
 use Rattle.smk_plan_states.specs.Spots.{maker_at, spot_in, is_ready_spot, is_over_ready}
 
@@ -137,25 +136,25 @@ is_read_by_child lines origins running n = list_any (is_reader_of origins n) (zi
 -- ## What is held back
 
 -- the job is to run, and reads the path of the link
-abbrev pub is_run_reader : ℕ → Line × State → Bool
-is_run_reader n e = is_to_run e.1 && list_any (has_link n) e.0.inputs
+abbrev pub is_run_reader : ℕ → Line × Rank → Bool
+is_run_reader n e = is_to_run_rank e.1 && list_any (has_link n) e.0.inputs
 
 -- a job that is to run does
-abbrev pub is_needed_in : List Line → List State → ℕ → Bool
-is_needed_in lines states n = list_any (is_run_reader n) (zip lines states)
+abbrev pub is_needed_in : List Line → List Rank → ℕ → Bool
+is_needed_in lines ranks n = list_any (is_run_reader n) (zip lines ranks)
 
 -- A job whose child doesn't run counts as Clean; a child reads what it made, and an output that isn't whole is wanted back.
-abbrev pub is_held_by : List Bool → Line × (State × (Option State × (Bool × List Bool))) → Bool
+abbrev pub is_held_by : List Bool → Line × (Rank × (Option State × (Bool × List Bool))) → Bool
 is_held_by needed e =
-    (is_none e.1.1.0 && is_clean e.1.0) && (e.1.1.1.0 && (is_needed_by_flags needed e.0.outputs e.1.1.1.1 || is_kept_by e.0.outputs e.1.1.1.1))
+    (is_none e.1.1.0 && is_clean_rank e.1.0) && (e.1.1.1.0 && (is_needed_by_flags needed e.0.outputs e.1.1.1.1 || is_kept_by e.0.outputs e.1.1.1.1))
 
 -- the job counts as Clean, a child reads what it made, and an output of it isn't whole
-abbrev pub is_lent_lacking : State × (Bool × List Bool) → Bool
-is_lent_lacking e = is_clean e.0 && (e.1.0 && lacks e.1.1)
+abbrev pub is_lent_lacking : Rank × (Bool × List Bool) → Bool
+is_lent_lacking e = is_clean_rank e.0 && (e.1.0 && lacks e.1.1)
 
 -- ## What is ready
 
 -- the directory is ready, and has no listing
-abbrev pub is_new_awaited : List State → (Option ℕ → Option Spot) → Awaited → Bool
-is_new_awaited states spots a =
-    (if a.over then test_some (is_over_ready states) (spots a.link) else test_some (is_ready_spot states) (spots a.link)) && not a.listed
+abbrev pub is_new_awaited : List Rank → (Option ℕ → Option Spot) → Awaited → Bool
+is_new_awaited ranks spots a =
+    (if a.over then test_some (is_over_ready ranks) (spots a.link) else test_some (is_ready_spot ranks) (spots a.link)) && not a.listed

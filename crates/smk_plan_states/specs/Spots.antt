@@ -2,13 +2,12 @@
 use Rattle.std.specs.Prelude.{ℕ, Bool, false, ◌&&◌, List, Option, option_map, slice_index_or}
 use Rattle.std.specs.List.{slice_get}
 use Rattle.std.specs.Option.{option_and_then}
-use Rattle.smk_trigger.specs.declared.reason.State.{State}
-use Rattle.smk_trigger.specs.JobStates.{is_clean}
 use Rattle.smk_plan.specs.States.{test_some}
 use Rattle.smk_plan_states.specs.declared.lines.Origin.{Origin}
 use Rattle.smk_plan_states.specs.declared.rows.Rows.{Rows}
 use Rattle.smk_plan_states.specs.declared.spots.Spot.{Spot}
-use Rattle.smk_plan_states.specs.Passes.{state_at}
+use Rattle.smk_plan_states.specs.declared.ranks.Rank.{Rank}
+use Rattle.smk_plan_states.specs.Ranks.{is_clean_rank, rank_at}
 use Rattle.smk_plan_states.specs.Rows.{lent}
 
 -- what makes the path of the link
@@ -35,12 +34,12 @@ spot_at origins outputs makers link =
 abbrev pub spot_in : List Origin → Rows → Option ℕ → Option Spot
 spot_in origins rows link = spot_at origins (lent rows.outputs.now) rows.makers.now link
 
--- ## What is ready by states
+-- ## What is ready by ranks
 
 -- a job makes it that is Clean, and it is whole
-abbrev pub is_ready_spot : List State → Spot → Bool
-is_ready_spot states s = test_some is_clean (state_at states s.job) && s.whole
+abbrev pub is_ready_spot : List Rank → Spot → Bool
+is_ready_spot ranks s = test_some is_clean_rank (rank_at ranks s.job) && s.whole
 
 -- the same of the directory over it
-abbrev pub is_over_ready : List State → Spot → Bool
-is_over_ready states s = test_some (λ w. test_some is_clean (state_at states s.job) && w) s.over
+abbrev pub is_over_ready : List Rank → Spot → Bool
+is_over_ready ranks s = test_some (λ w. test_some is_clean_rank (rank_at ranks s.job) && w) s.over

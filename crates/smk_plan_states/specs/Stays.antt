@@ -1,5 +1,5 @@
 -- A step of one job: what stays of all others.
-use Rattle.std.specs.Prelude.{◌≡◌, ◌<◌, ℕ, Bool, false, true, ◌==◌, ◌||◌, ◌&&◌, not, if◌then◌else◌, ◌++◌, List, [], map, length, take, Option, Some, None, slice_index_or}
+use Rattle.std.specs.Prelude.{◌≡◌, ◌<◌, ℕ, suc, Bool, false, true, ◌==◌, ◌||◌, ◌&&◌, not, if◌then◌else◌, ◌++◌, List, [], ◌∷◌, map, length, take, Option, Some, None, slice_index_or}
 use Rattle.std.specs.List.{list_any, slice_get}
 use Rattle.smk_world.specs.Trees.{Each}
 use Rattle.smk_trigger.specs.declared.reason.Reason.{Reason}
@@ -107,20 +107,6 @@ pub record AreWatched (lines : List Line) (origins : List Origin) (watchers : Li
       (n : ℕ) (line : Line) (job : ℕ) → job < length lines → slice_get lines n ≡ Some line → reads_of origins job line ≡ true →
       has_number n (slice_index_or watchers job []) ≡ true
 
--- the state of the job of the number is that of its rank, with its own reasons and the inputs whose job is Dirty
-abbrev pub IsBuiltAt : List Origin → Told → List Rank → List State → ℕ → Line → Type 0
-IsBuiltAt origins rows ranks states n line =
-    (alone : List Reason) →
-    slice_index_or rows.reasons n [] ≡ alone ++ when (slice_index_or rows.forced n false) Forced →
-    slice_get states n
-    ≡ Some
-    (state_by (slice_index_or rows.running n None) (slice_index_or ranks n AtOpen)
-    (alone ++ (map Upstream (upstream_paths ranks origins line.inputs) ++ when (slice_index_or rows.forced n false) Forced)))
-
--- so are all states
-pub record AreBuilt (lines : List Line) (origins : List Origin) (rows : Told) (ranks : List Rank) (states : List State) : Type 0 where
-  pub each : (n : ℕ) (line : Line) → slice_get lines n ≡ Some line → IsBuiltAt origins rows ranks states n line
-
 -- The number is none of these: that of the job, of its readers and of those that watch it; and whether a child reads of it is as it was.
 pub record IsApart (job : ℕ) (readers watchers : List ℕ) (was used : List Bool) (n : ℕ) : Type 0 where
   pub other : (n == job) ≡ false
@@ -138,14 +124,33 @@ pub record AreAfter
       (n : ℕ) (line : Line) → slice_get lines n ≡ Some line → slice_index_or doubts n false ≡ true →
       slice_get ranks n ≡ Some (rank_told ranks origins rows line n (slice_index_or used n false))
 
--- The state of the job of this number, with this line, is made anew by these ranks where it is doubted, and else it is as it was.
-pub record IsStateAfter
-    (lines : List Line) (origins : List Origin) (rows : Told) (ranks : List Rank) (doubts : List Bool) (before found : List State) (n : ℕ) (line : Line) : Type 0 where
-  pub anew :
-      slice_index_or doubts n false ≡ true → (alone : List Reason) →
-      slice_index_or rows.reasons n [] ≡ alone ++ when (slice_index_or rows.forced n false) Forced →
-      slice_get found n
-      ≡ Some
-      (state_by (slice_index_or rows.running n None) (slice_index_or ranks n AtOpen)
-      (alone ++ (map Upstream (upstream_paths ranks origins line.inputs) ++ when (slice_index_or rows.forced n false) Forced)))
-  pub stays : slice_index_or doubts n false ≡ false → slice_get found n ≡ slice_get before n
+-- ## States by ranks
+
+-- all but the last
+abbrev pub but_last : {A : Type 0} → List A → List A
+but_last [] = []
+but_last (x ∷ []) = []
+but_last (x ∷ y ∷ xs) = x ∷ but_last (y ∷ xs)
+
+-- the reasons without Forced, which stands last where the job is forced
+abbrev pub alone_in : Bool → List Reason → List Reason
+alone_in forced reasons = if forced then but_last reasons else reasons
+
+-- the state by the rank among these: with its own reasons, the inputs whose job is Dirty, and Forced
+abbrev pub state_with : List Rank → List Origin → List Input → Option State → Rank → Bool → List Reason → State
+state_with ranks origins inputs begun rank forced own =
+    state_by begun rank (alone_in forced own ++ (map Upstream (upstream_paths ranks origins inputs) ++ when forced Forced))
+
+-- the state of the job of the number, with this line
+abbrev pub state_told : List Origin → Told → List Rank → ℕ → Line → State
+state_told origins rows ranks n line =
+    state_with ranks origins line.inputs (slice_index_or rows.running n None) (slice_index_or ranks n AtOpen) (slice_index_or rows.forced n false)
+    (slice_index_or rows.reasons n [])
+
+-- so of all lines; the first of them has this number
+abbrev pub states_from : List Origin → Told → List Rank → ℕ → List Line → List State
+states_from origins rows ranks n [] = []
+states_from origins rows ranks n (line ∷ lines) = state_told origins rows ranks n line ∷ states_from origins rows ranks (suc n) lines
+
+abbrev pub states_told : List Line → List Origin → Told → List Rank → List State
+states_told lines origins rows ranks = states_from origins rows ranks 0 lines

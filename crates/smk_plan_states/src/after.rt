@@ -1,24 +1,17 @@
-//! The ranks and states of the jobs after a step of one of them, where no other rank changes.
+//! The ranks of the jobs after a step of one of them, where no other rank changes.
 
-ghost use Rattle.std.specs.Prelude.{◌≡◌, ◌<◌, ◌==◌, ◌||◌, ◌++◌, ℕ, List as Items, length, map, slice_index_or, Some, None, true, false, [], IfOk, IfSome};
-ghost use Rattle.smk_trigger.specs.declared.reason.Reason.{Reason as ReasonValue};
-ghost use Rattle.smk_trigger.specs.Reasons.{when};
-ghost use Rattle.smk_plan_states.specs.Rows.{lent};
-ghost use Rattle.smk_plan_states.specs.Ranks.{state_by};
+ghost use Rattle.std.specs.Prelude.{◌≡◌, ◌<◌, ◌==◌, ◌||◌, ℕ, length, slice_index_or, Some, true, false, IfOk, IfSome};
 ghost use Rattle.std.specs.List.{slice_get};
 ghost use Rattle.smk_plan_states.specs.declared.lines.Line.{Line as LineValue};
-ghost use Rattle.smk_plan_states.specs.Ranking.{upstream_paths};
-ghost use Rattle.smk_plan_states.specs.Stays.{rank_told, told_by, AreAfter, IsApart, IsStateAfter, has_number};
+ghost use Rattle.smk_plan_states.specs.Stays.{rank_told, told_by, AreAfter, IsApart, has_number};
 
 use crate::downward::{set_at, unset};
 use crate::lines::{Line, Origin};
 use crate::ranks::Rank;
-use crate::reasons::{reasons_in, state_again, state_by};
 use crate::rows::Rows;
-use crate::spots::{began_at, flag_at, row_at};
+use crate::spots::flag_at;
 use crate::upward::first_rank;
-use smk_base::{List, OutOfMemory};
-use smk_trigger::{Reason, State};
+use smk_base::OutOfMemory;
 use std::alloc::Global;
 
 // Sets the flags of these numbers.
@@ -135,65 +128,6 @@ fn with_rank(
     let mut found = Vec::from_slice(alloc, ranks)?;
     if number < found.len() {
         found[number] = rank;
-    }
-    Ok(found)
-}
-
-// The state of the job of the number, with this line: made anew where it is doubted, and else as it was.
-fn state_after(
-    alloc: Global,
-    line: &Line,
-    number: usize,
-    origins: &[Origin],
-    rows: &Rows<'_>,
-    ranks: &[Rank],
-    doubts: &[bool],
-    before: &[State],
-) -> Result<State, OutOfMemory>
-    requires within { number < length ranks.now }
-    requires before { number < length before.now }
-    ensures doubted { IfOk result (λ state. slice_index_or doubts.now number false ≡ true
-        → (alone : Items ReasonValue) → slice_index_or (lent rows.now.reasons.now) number [] ≡ alone ++ when (slice_index_or rows.now.forced.now number false) Reason.Forced
-        → state ≡ state_by (slice_index_or rows.now.running.now number None) (slice_index_or ranks.now number Rank.Open)
-        (alone ++ (map (λ q. Reason.Upstream q) (upstream_paths ranks.now origins.now line.now.inputs) ++ when (slice_index_or rows.now.forced.now number false) Reason.Forced))) }
-    ensures stays { IfOk result (λ state. slice_index_or doubts.now number false ≡ false → slice_get before.now number ≡ Some state) }
-{
-    if !flag_at(doubts, number) {
-        return state_again(&before[number]);
-    }
-    state_by(
-        alloc,
-        reasons_in(before.get(number)),
-        began_at(rows.running, number),
-        ranks[number],
-        ranks,
-        origins,
-        line.inputs.as_slice(),
-        row_at(rows.reasons, number),
-        flag_at(rows.forced, number),
-    )
-}
-
-/// The states after the step, by these ranks: those that are doubted made anew, the others as they were.
-pub(crate) fn states_after(
-    alloc: Global,
-    lines: &[Line],
-    origins: &[Origin],
-    rows: &Rows<'_>,
-    ranks: &[Rank],
-    doubts: &[bool],
-    before: &[State],
-) -> Result<List<State>, OutOfMemory>
-    requires ranks { length ranks.now ≡ length lines.now }
-    requires before { length before.now ≡ length lines.now }
-    ensures each { IfOk result (λ found. length found ≡ length lines.now) }
-    ensures states { IfOk result (λ found. (n : ℕ) (line : LineValue) → slice_get lines.now n ≡ Some line
-        → IsStateAfter lines.now origins.now (told_by rows.now) ranks.now doubts.now before.now found n line) }
-{
-    let mut found = List::new(alloc);
-    for (number, line) in lines.iter().enumerate() {
-        let state = state_after(alloc, line, number, origins, rows, ranks, doubts, before)?;
-        found.push(state)?;
     }
     Ok(found)
 }

@@ -182,6 +182,7 @@ pub(crate) fn last_ranks(
     ensures ranks { IfOk result (λ ranks. (at : Judging) (jobs : JobsValue) (states : Items StateValue)
         → IsMoment at jobs states lines.now origins.now rows.now used.now
         → first.items ≡ map rank_of (first_states at jobs states) → ranks.items ≡ map rank_of states) }
+    ensures whole { IfOk result (λ ranks. list_any is_lacking (zip first.items (lent rows.now.outputs.now)) ≡ false → ranks.items ≡ first.items) }
 {
     if any_lacking(first.as_slice(), rows.outputs) {
         return needed_ranks(alloc, lines, origins, rows, used, first);

@@ -9,7 +9,7 @@ use smk_trigger::State;
 
 /// What a state is, without its reasons.
 #[derive(Clone, Copy)]
-pub(crate) enum Rank {
+pub enum Rank {
     Open,
     Dirty,
     Restore,
@@ -48,7 +48,7 @@ pub(crate) fn is_clean(rank: Option<Rank>) -> bool
 }
 
 /// Whether a job of this rank is to run.
-pub(crate) fn is_to_run(rank: Rank) -> bool
+pub fn is_to_run(rank: Rank) -> bool
     ensures { result ≡ is_to_run_rank rank }
 {
     matches!(rank, Rank::Dirty | Rank::Restore)

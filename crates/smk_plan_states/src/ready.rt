@@ -1,48 +1,36 @@
-//! What is ready by the states of jobs: targets, and directories that are awaited.
+//! What is ready by the ranks of jobs: targets, and directories that are awaited.
 
 ghost use Rattle.std.specs.Prelude.{◌≡◌, ◌++◌, ◌&&◌, not, map, filter, IfOk, OnOk, if◌then◌else◌, ◌∷◌, []};
-ghost use Rattle.smk_trigger.specs.JobStates.{is_clean};
 ghost use Rattle.smk_plan.specs.States.{test_some};
-ghost use Rattle.smk_plan_states.specs.Passes.{state_at};
 ghost use Rattle.smk_plan_states.specs.Spots.{spot_in, is_ready_spot, is_over_ready};
 ghost use Rattle.smk_plan_states.specs.Ranking.{is_new_awaited};
 
 use crate::lines::{Awaited, Origin, Target};
+use crate::ranks::{Rank, is_clean, rank_at};
 use crate::rows::Rows;
 use crate::spots::{Spot, spot_at};
 use smk_base::{List, OutOfMemory, PathText};
-use smk_trigger::State;
 use std::alloc::Global;
 
-// Whether there is a job with this number, which is Clean.
-fn is_made_clean(states: &[State], number: Option<u32>) -> bool
-    ensures { result ≡ test_some is_clean (state_at states.now number) }
-{
-    match number {
-        Some(number) => matches!(states.get(number as usize), Some(State::Clean)),
-        None => false,
-    }
-}
-
 // Whether a job makes the path that is Clean, and it is whole.
-fn is_ready(states: &[State], spot: Option<Spot>) -> bool
-    ensures { result ≡ test_some (is_ready_spot states.now) spot }
+fn is_ready(ranks: &[Rank], spot: Option<Spot>) -> bool
+    ensures { result ≡ test_some (is_ready_spot ranks.now) spot }
 {
     match spot {
-        Some(spot) => is_made_clean(states, spot.job) && spot.whole,
+        Some(spot) => is_clean(rank_at(ranks, spot.job)) && spot.whole,
         None => false,
     }
 }
 
 // The same of the directory over the path.
-fn is_over_ready(states: &[State], spot: Option<Spot>) -> bool
-    ensures { result ≡ test_some (is_over_ready states.now) spot }
+fn is_over_ready(ranks: &[Rank], spot: Option<Spot>) -> bool
+    ensures { result ≡ test_some (is_over_ready ranks.now) spot }
 {
     let Some(spot) = spot else {
         return false;
     };
     match spot.over {
-        Some(whole) => is_made_clean(states, spot.job) && whole,
+        Some(whole) => is_clean(rank_at(ranks, spot.job)) && whole,
         None => false,
     }
 }
@@ -52,27 +40,27 @@ pub(crate) fn ready_in(
     alloc: Global,
     origins: &[Origin],
     rows: &Rows<'_>,
-    states: &[State],
+    ranks: &[Rank],
     targets: &[Target],
 ) -> Result<List<bool>, OutOfMemory>
-    ensures { IfOk result (λ ready. ready ≡ map (λ t. test_some (is_ready_spot states.now) (spot_in origins.now rows.now t.link)) targets.now) }
+    ensures { IfOk result (λ ready. ready ≡ map (λ t. test_some (is_ready_spot ranks.now) (spot_in origins.now rows.now t.link)) targets.now) }
 {
     let mut ready = List::new(alloc);
     for target in targets {
-        ready.push(is_ready(states, spot_at(origins, rows, target.link)))?;
+        ready.push(is_ready(ranks, spot_at(origins, rows, target.link)))?;
     }
     Ok(ready)
 }
 
 // Whether the directory is ready, and has no listing.
-fn is_new(states: &[State], origins: &[Origin], rows: &Rows<'_>, awaited: &Awaited) -> bool
-    ensures { result ≡ is_new_awaited states.now (spot_in origins.now rows.now) awaited.now }
+fn is_new(ranks: &[Rank], origins: &[Origin], rows: &Rows<'_>, awaited: &Awaited) -> bool
+    ensures { result ≡ is_new_awaited ranks.now (spot_in origins.now rows.now) awaited.now }
 {
     let spot = spot_at(origins, rows, awaited.link);
     let ready = if awaited.over {
-        is_over_ready(states, spot)
+        is_over_ready(ranks, spot)
     } else {
-        is_ready(states, spot)
+        is_ready(ranks, spot)
     };
     ready && !awaited.listed
 }
@@ -98,14 +86,14 @@ pub(crate) fn new_in(
     alloc: Global,
     origins: &[Origin],
     rows: &Rows<'_>,
-    states: &[State],
+    ranks: &[Rank],
     awaited: &[Awaited],
 ) -> Result<List<PathText>, OutOfMemory>
-    ensures { IfOk result (λ found. found ≡ map (λ a. a.path) (filter (is_new_awaited states.now (spot_in origins.now rows.now)) awaited.now)) }
+    ensures { IfOk result (λ found. found ≡ map (λ a. a.path) (filter (is_new_awaited ranks.now (spot_in origins.now rows.now)) awaited.now)) }
 {
     let mut found = List::new(alloc);
     for one in awaited {
-        let fresh = is_new(states, origins, rows, one);
+        let fresh = is_new(ranks, origins, rows, one);
         push_new(alloc, &mut found, &one.path, fresh)?;
     }
     Ok(found)

@@ -1,16 +1,17 @@
 //! The table of states: how the paths of jobs and targets hang together, by numbers, and the states of the jobs by it.
 
-ghost use Rattle.std.specs.Prelude.{◌≡◌, List as Items, length, map, Some, [], IfOk};
+ghost use Rattle.std.specs.Prelude.{◌≡◌, List as Items, length, map, option_map, slice_index_or, Some, None, false, [], IfOk};
 ghost use Rattle.smk_world.specs.Trees.{Path};
 ghost use Rattle.smk_chain.specs.declared.jobs.Jobs.{Jobs as JobsValue};
 ghost use Rattle.smk_plan.specs.States.{is_read_now};
 ghost use Rattle.smk_trigger.specs.declared.reason.State.{State as StateValue};
 ghost use Rattle.smk_plan_states.specs.Judged.{Judging, AreStates, any_held_back, began, new_directories, targets_ready, with_states};
-ghost use Rattle.smk_plan_states.specs.Moment.{IsMoment};
+ghost use Rattle.smk_plan_states.specs.Ranks.{rank_of};
 ghost use Rattle.smk_plan_states.specs.Rows.{AreRowsAt};
 ghost use Rattle.smk_plan_states.specs.Served.{AreServed};
-ghost use Rattle.smk_plan_states.specs.Standing.{FollowsBy, StandsBy};
-ghost use Rattle.smk_plan_states.specs.Stays.{AreWatched, told_by};
+ghost use Rattle.smk_plan_states.specs.Standing.{FollowsBy, StandsBy, states_by};
+ghost use Rattle.std.specs.List.{slice_get};
+ghost use Rattle.smk_plan_states.specs.Stays.{AreWatched, Told, told_by};
 ghost use Rattle.smk_plan_states.specs.Tables.{IsTableAt, IsTableOf};
 
 use crate::awaits::{each_once, spot_paths, spots_in};
@@ -18,15 +19,17 @@ use crate::holding::any_held;
 use crate::in_use::used_in;
 use crate::lines::{Awaited, Line, Origin, Target};
 use crate::making::{Wants, lines_of, origins_of, targets_of};
+use crate::ranks::Rank;
 use crate::ready::{new_in, ready_in};
+use crate::reasons::{rank_or_open, state_with, states_of};
 use crate::rows::Rows;
-use crate::standing::{Last, Standing, stand, stand_after};
+use crate::standing::{Last, Ranking, rank_after, rank_all};
 use crate::watching::{watchers_at, watchers_of};
 use crate::ways::{Ways, read_in, sources_in};
 use smk_base::{List, OutOfMemory, PathText};
 use smk_chain::Jobs;
 use smk_chain::sets::set_of;
-use smk_trigger::State;
+use smk_trigger::{Reason, State};
 use std::alloc::Global;
 
 /// How the paths of jobs and targets hang together, by numbers: made once for some jobs and targets, it answers each question of the states by what is lent of the
@@ -39,6 +42,13 @@ pub struct Table {
     awaited: List<Awaited>,
     // For each job the numbers of those that read or gather from what it makes.
     watchers: Vec<List<usize>>,
+}
+
+// The line of the number.
+fn line_at(lines: &[Line], number: usize) -> Option<&Line>
+    ensures { option_map (λ l. l.now) result ≡ slice_get lines.now number }
+{
+    lines.get(number)
 }
 
 // The table of these parts, with those that watch each job.
@@ -109,109 +119,154 @@ impl Table {
         self.targets.as_slice()
     }
 
-    // The states after the step, or told anew where a rank may change.
-    fn stand_on(
+    // The ranks after the step, or told anew where another one may change.
+    fn rank_on(
         &self,
         alloc: Global,
         rows: &Rows<'_>,
         last: Last<'_>,
-    ) -> Result<Standing, OutOfMemory>
-        ensures each { IfOk result (λ s. length s.states ≡ length self.now.lines) }
-        ensures standing { IfOk result (λ s. (jobs : JobsValue) (targets : Items Path) → IsTableOf jobs targets self.now → AreServed jobs targets
-            → FollowsBy self.now (Some last.entry) (told_by rows.now) → StandsBy self.now (told_by rows.now) s) }
-        ensures table { IfOk result (λ s. (at : Judging) (jobs : JobsValue) → IsTableAt at jobs self.now → AreRowsAt at jobs rows.now
-            → FollowsBy self.now (Some last.entry) (told_by rows.now) → AreStates at jobs s.states) }
+    ) -> Result<Ranking, OutOfMemory>
+        ensures each { IfOk result (λ r. length r.last.items ≡ length self.now.lines) }
+        ensures standing { IfOk result (λ r. (jobs : JobsValue) (targets : Items Path) → IsTableOf jobs targets self.now → AreServed jobs targets
+            → FollowsBy self.now (Some last.entry) (told_by rows.now) → StandsBy self.now (told_by rows.now) r) }
+        ensures ranks { IfOk result (λ r. (at : Judging) (jobs : JobsValue) → IsTableAt at jobs self.now → AreRowsAt at jobs rows.now
+            → FollowsBy self.now (Some last.entry) (told_by rows.now) → (states : Items StateValue) → AreStates at jobs states → r.last.items ≡ map rank_of states) }
+        ensures table { IfOk result (λ r. (at : Judging) (jobs : JobsValue) → IsTableAt at jobs self.now → AreRowsAt at jobs rows.now
+            → FollowsBy self.now (Some last.entry) (told_by rows.now) → AreStates at jobs (states_by self.now (told_by rows.now) r)) }
     {
         let lines = self.lines.as_slice();
         let origins = self.origins.as_slice();
         let used = used_in(alloc, lines, origins, rows.running)?;
         let watchers = watchers_at(self.watchers.as_slice(), last.job);
-        match stand_after(alloc, lines, origins, rows, used, watchers, last)? {
-            Some(standing) => Ok(standing),
-            None => self.stand_anew(alloc, rows, last.states),
+        match rank_after(alloc, lines, origins, rows, used, watchers, last)? {
+            Some(ranking) => Ok(ranking),
+            None => self.rank_anew(alloc, rows),
         }
     }
 
-    // The states, told anew of all jobs.
-    fn stand_anew(
-        &self,
-        alloc: Global,
-        rows: &Rows<'_>,
-        before: &[State],
-    ) -> Result<Standing, OutOfMemory>
-        ensures each { IfOk result (λ s. length s.states ≡ length self.now.lines) }
-        ensures standing { IfOk result (λ s. (jobs : JobsValue) (targets : Items Path) → IsTableOf jobs targets self.now → AreServed jobs targets
-            → StandsBy self.now (told_by rows.now) s) }
-        ensures table { IfOk result (λ s. (at : Judging) (jobs : JobsValue) → IsTableAt at jobs self.now → AreRowsAt at jobs rows.now → AreStates at jobs s.states) }
+    // The ranks, told anew of all jobs.
+    fn rank_anew(&self, alloc: Global, rows: &Rows<'_>) -> Result<Ranking, OutOfMemory>
+        ensures each { IfOk result (λ r. length r.last.items ≡ length self.now.lines) }
+        ensures standing { IfOk result (λ r. (jobs : JobsValue) (targets : Items Path) → IsTableOf jobs targets self.now → AreServed jobs targets
+            → StandsBy self.now (told_by rows.now) r) }
+        ensures ranks { IfOk result (λ r. (at : Judging) (jobs : JobsValue) → IsTableAt at jobs self.now → AreRowsAt at jobs rows.now
+            → (states : Items StateValue) → AreStates at jobs states → r.last.items ≡ map rank_of states) }
+        ensures table { IfOk result (λ r. (at : Judging) (jobs : JobsValue) → IsTableAt at jobs self.now → AreRowsAt at jobs rows.now
+            → AreStates at jobs (states_by self.now (told_by rows.now) r)) }
     {
         let lines = self.lines.as_slice();
         let origins = self.origins.as_slice();
         let used = used_in(alloc, lines, origins, rows.running)?;
-        let standing = stand(alloc, lines, origins, rows, used, before)?;
-        Ok(standing)
+        let ranking = rank_all(alloc, lines, origins, rows, used)?;
+        Ok(ranking)
     }
 
-    /// The state of each job, by the table of states, with what is kept of their ranks for the next step. `OutOfMemory` where there is no memory for them.
+    /// The rank of each job, by the table of states, with what is kept for the next step. `OutOfMemory` where there is no memory for them.
     ///
     /// A job that began Dirty stays so while its child runs, and one that began as a Restore isn't Clean. A Restore counts as Clean while a child
-    /// reads what it made. The time is linear in the jobs with their inputs and outputs, and the reasons of those that are Dirty. Where what was kept before
-    /// a step of one job is given, and no other rank changes by it, only the flags of all jobs are gone over, and what the job, its readers and those that
-    /// watch it have is looked at.
-    pub fn standing(
+    /// reads what it made. The time is linear in the jobs with their inputs and outputs. Where what was kept before a step of one job is given, and no other
+    /// rank changes by it, only the flags of all jobs are gone over, and what the job, its readers and those that watch it have is looked at.
+    pub fn rank(
         &self,
         alloc: Global,
         rows: &Rows<'_>,
         last: Option<Last<'_>>,
-    ) -> Result<Standing, OutOfMemory>
-        ensures each { IfOk result (λ s. (jobs : JobsValue) (targets : Items Path) → IsTableOf jobs targets self.now → length s.states ≡ length jobs.jobs) }
-        ensures standing { IfOk result (λ s. (jobs : JobsValue) (targets : Items Path) → IsTableOf jobs targets self.now → AreServed jobs targets
-            → FollowsBy self.now last.entry (told_by rows.now) → StandsBy self.now (told_by rows.now) s) }
-        ensures table { IfOk result (λ s. (at : Judging) (jobs : JobsValue) → IsTableAt at jobs self.now → AreRowsAt at jobs rows.now
-            → FollowsBy self.now last.entry (told_by rows.now) → AreStates at jobs s.states) }
+    ) -> Result<Ranking, OutOfMemory>
+        ensures each { IfOk result (λ r. (jobs : JobsValue) (targets : Items Path) → IsTableOf jobs targets self.now → length r.last.items ≡ length jobs.jobs) }
+        ensures standing { IfOk result (λ r. (jobs : JobsValue) (targets : Items Path) → IsTableOf jobs targets self.now → AreServed jobs targets
+            → FollowsBy self.now last.entry (told_by rows.now) → StandsBy self.now (told_by rows.now) r) }
+        ensures ranks { IfOk result (λ r. (at : Judging) (jobs : JobsValue) → IsTableAt at jobs self.now → AreRowsAt at jobs rows.now
+            → FollowsBy self.now last.entry (told_by rows.now) → (states : Items StateValue) → AreStates at jobs states → r.last.items ≡ map rank_of states) }
+        ensures table { IfOk result (λ r. (at : Judging) (jobs : JobsValue) → IsTableAt at jobs self.now → AreRowsAt at jobs rows.now
+            → FollowsBy self.now last.entry (told_by rows.now) → AreStates at jobs (states_by self.now (told_by rows.now) r)) }
     {
         match last {
-            None => self.stand_anew(alloc, rows, &[]),
-            Some(last) => self.stand_on(alloc, rows, last),
+            None => self.rank_anew(alloc, rows),
+            Some(last) => self.rank_on(alloc, rows, last),
         }
     }
 
-    /// For each target whether it is ready by these states: a job makes it that is Clean, and it is whole. `OutOfMemory` where there is no
+    /// The states of the jobs by their ranks. `OutOfMemory` where there is no memory for them.
+    pub fn states(
+        &self,
+        alloc: Global,
+        rows: &Rows<'_>,
+        ranking: &Ranking,
+    ) -> Result<List<State>, OutOfMemory>
+        ensures { IfOk result (λ states. states ≡ states_by self.now (told_by rows.now) ranking.now) }
+    {
+        let states = states_of(
+            alloc,
+            self.lines.as_slice(),
+            self.origins.as_slice(),
+            rows,
+            ranking.ranks(),
+        )?;
+        Ok(states)
+    }
+
+    /// The state of the job of the number by the ranks, where its reasons are these, it is forced or not, and it had that state when it began, if its child runs.
+    /// None where there is no such job. `OutOfMemory` where there is no memory for it.
+    pub fn state_of(
+        &self,
+        alloc: Global,
+        ranking: &Ranking,
+        number: usize,
+        own: &[Reason],
+        forced: bool,
+        begun: Option<&State>,
+    ) -> Result<Option<State>, OutOfMemory>
+        ensures { IfOk result (λ state. (rows : Told) → slice_index_or rows.reasons number [] ≡ own.now → slice_index_or rows.forced number false ≡ forced
+            → slice_index_or rows.running number None ≡ option_map (λ s. s.now) begun.entry → state ≡ slice_get (states_by self.now rows ranking.now) number) }
+    {
+        let Some(line) = line_at(self.lines.as_slice(), number) else {
+            return Ok(None);
+        };
+        let ranks = ranking.ranks();
+        let rank = rank_or_open(ranks, number);
+        let origins = self.origins.as_slice();
+        let inputs = line.inputs.as_slice();
+        let state = state_with(alloc, begun, rank, ranks, origins, inputs, own, forced)?;
+        Ok(Some(state))
+    }
+
+    /// For each target whether it is ready by these ranks: a job makes it that is Clean, and it is whole. `OutOfMemory` where there is no
     /// memory for the answer.
     pub fn ready_targets(
         &self,
         alloc: Global,
         rows: &Rows<'_>,
-        states: &[State],
+        ranks: &[Rank],
     ) -> Result<List<bool>, OutOfMemory>
-        ensures { IfOk result (λ ready. (at : Judging) (jobs : JobsValue) → IsTableAt at jobs self.now → AreRowsAt at jobs rows.now → length states.now ≡ length jobs.jobs
-            → ready ≡ targets_ready at jobs states.now) }
+        ensures { IfOk result (λ ready. (at : Judging) (jobs : JobsValue) (states : Items StateValue) → IsTableAt at jobs self.now → AreRowsAt at jobs rows.now
+            → ranks.now ≡ map rank_of states → length states ≡ length jobs.jobs → ready ≡ targets_ready at jobs states) }
     {
         let ready = ready_in(
             alloc,
             self.origins.as_slice(),
             rows,
-            states,
+            ranks,
             self.targets.as_slice(),
         )?;
         Ok(ready)
     }
 
-    /// The awaited directories that are ready by these states and have no listing yet, each once, in the order in which they are awaited.
+    /// The awaited directories that are ready by these ranks and have no listing yet, each once, in the order in which they are awaited.
     /// `OutOfMemory` where there is no memory for them.
     pub fn newly_ready(
         &self,
         alloc: Global,
         rows: &Rows<'_>,
-        states: &[State],
+        ranks: &[Rank],
     ) -> Result<List<PathText>, OutOfMemory>
-        ensures { IfOk result (λ found. (at : Judging) (jobs : JobsValue) → IsTableAt at jobs self.now → AreRowsAt at jobs rows.now → length states.now ≡ length jobs.jobs
-            → found ≡ new_directories at jobs states.now) }
+        ensures { IfOk result (λ found. (at : Judging) (jobs : JobsValue) (states : Items StateValue) → IsTableAt at jobs self.now → AreRowsAt at jobs rows.now
+            → ranks.now ≡ map rank_of states → length states ≡ length jobs.jobs → found ≡ new_directories at jobs states) }
     {
         let found = new_in(
             alloc,
             self.origins.as_slice(),
             rows,
-            states,
+            ranks,
             self.awaited.as_slice(),
         )?;
         Ok(found)
@@ -233,20 +288,19 @@ impl Table {
     }
 
     /// Whether some job is to be restored but counts as Clean, since a child reads what it made: the child of another job, and its own
-    /// doesn't run. `states` are those of the table. `OutOfMemory` where there is no memory to tell.
+    /// doesn't run. `ranking` is that of the table. `OutOfMemory` where there is no memory to tell.
     pub fn holds_back(
         &self,
         alloc: Global,
         rows: &Rows<'_>,
-        states: &[State],
+        ranking: &Ranking,
     ) -> Result<bool, OutOfMemory>
-        ensures { IfOk result (λ held. (at : Judging) (jobs : JobsValue) → IsTableAt at jobs self.now → AreRowsAt at jobs rows.now
-            → AreStates at jobs states.now → held ≡ any_held_back at jobs states.now) }
+        ensures { IfOk result (λ held. (at : Judging) (jobs : JobsValue) (states : Items StateValue) → IsTableAt at jobs self.now → AreRowsAt at jobs rows.now
+            → StandsBy self.now (told_by rows.now) ranking.now → AreStates at jobs states → ranking.now.last.items ≡ map rank_of states → held ≡ any_held_back at jobs states) }
     {
         let lines = self.lines.as_slice();
         let origins = self.origins.as_slice();
-        let used = used_in(alloc, lines, origins, rows.running)?;
-        let held = any_held(alloc, lines, origins, rows, used.as_slice(), states)?;
+        let held = any_held(alloc, lines, origins, rows, ranking.used(), ranking.ranks())?;
         Ok(held)
     }
 }

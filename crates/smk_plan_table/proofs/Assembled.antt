@@ -28,6 +28,7 @@ use Rattle.smk_plan_facts.specs.Facts.{having_run, facts_of, told_sources, AreFa
 use Rattle.smk_plan_states.specs.Judged.{with_states, reasons_now, AreJudged}
 use Rattle.smk_plan_states.specs.declared.lines.Target.{Target}
 use Rattle.smk_plan_states.specs.Lines.{target_of}
+use Rattle.smk_plan_states.specs.Ranks.{rank_of}
 use Rattle.smk_plan_table.specs.Parts.{before_in, current_in, idle_in, listing_in, refusals_in}
 use Rattle.smk_plan_table.specs.Plans.{Agree, begun_at, idle_at, at_rest, HasMadeAt, IsUnrefused, IsRefusedAt}
 use Rattle.smk_plan_table.proofs.Refused.{front_of, refused_first, unrefused_all}
@@ -43,14 +44,14 @@ module _ (image : Image) (settings : Settings) (progress : Progress) (jobs : Job
   -- the idle jobs and those that are ahead are told by flags
   first_same : (running : List (Option State)) → running ≡ map (kept_state image settings progress (with_states jobs [])) jobs.jobs →
       (flags : List Bool) → flags ≡ begun_at progress jobs.jobs → (states : List State) →
-      first_of (idle_in jobs.jobs running) (before_in jobs.jobs states flags) ≡ first_of (idle_at progress jobs.jobs) (front_of progress (with_states jobs states))
+      first_of (idle_in jobs.jobs running) (before_in jobs.jobs (map rank_of states) flags) ≡ first_of (idle_at progress jobs.jobs) (front_of progress (with_states jobs states))
   first_same running r flags b states =
-      ap (λ (idle : List Job). first_of idle (before_in jobs.jobs states flags)) (ap (idle_in jobs.jobs) r ∙ idle_same image settings progress jobs jobs.jobs)
-      ∙ ap (λ (bs : List Bool). first_of (idle_at progress jobs.jobs) (before_in jobs.jobs states bs)) b
+      ap (λ (idle : List Job). first_of idle (before_in jobs.jobs (map rank_of states) flags)) (ap (idle_in jobs.jobs) r ∙ idle_same image settings progress jobs jobs.jobs)
+      ∙ ap (λ (bs : List Bool). first_of (idle_at progress jobs.jobs) (before_in jobs.jobs (map rank_of states) bs)) b
 
   pub refusal : (running : List (Option State)) → running ≡ map (kept_state image settings progress (with_states jobs [])) jobs.jobs →
       (flags : List Bool) → flags ≡ begun_at progress jobs.jobs → (states : List State) → HasStates image settings progress (with_states jobs states) →
-      (f : PlanFault) → Some f ≡ first_of (idle_in jobs.jobs running) (before_in jobs.jobs states flags) →
+      (f : PlanFault) → Some f ≡ first_of (idle_in jobs.jobs running) (before_in jobs.jobs (map rank_of states) flags) →
       IsRefusedAt (record { image = image; settings = settings; progress = progress }) jobs f
   refusal running r flags b states table f e =
       record {
@@ -70,7 +71,7 @@ module _ (image : Image) (settings : Settings) (progress : Progress) (jobs : Job
 
   pub made_of : (running : List (Option State)) → running ≡ map (kept_state image settings progress (with_states jobs [])) jobs.jobs →
       (flags : List Bool) → flags ≡ begun_at progress jobs.jobs → (states : List State) → HasStates image settings progress (with_states jobs states) →
-      None ≡ first_of (idle_in jobs.jobs running) (before_in jobs.jobs states flags) →
+      None ≡ first_of (idle_in jobs.jobs running) (before_in jobs.jobs (map rank_of states) flags) →
       (told : Told) → told.states ≡ states → told.current ≡ map (is_current image settings progress (with_states jobs states)) settings.targets →
       told.known ≡ new_listings image settings progress (with_states jobs states) → HasMadeAt (record { image = image; settings = settings; progress = progress }) jobs told
   made_of running r flags b states table none told e c k =

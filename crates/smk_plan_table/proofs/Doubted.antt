@@ -1,5 +1,5 @@
 -- Where nothing is suspected of jobs, nothing is refused of them.
-use Rattle.std.proofs.Common.{◌≡◌, Bool, true, false, cond, not, ◌&&◌, ◌||◌, List, [], ◌∷◌, ◌++◌, map, Option, None, refl, sym, ap, ◌∙◌}
+use Rattle.std.proofs.Common.{◌≡◌, Bool, true, false, cond, not, ◌&&◌, ◌||◌, List, [], ◌∷◌, ◌++◌, map, length, Option, None, arith, refl, sym, ap, ◌∙◌}
 use Rattle.std.specs.Prelude.{if◌then◌else◌, is_none}
 use Rattle.std.specs.List.{filter, list_any, AllZip}
 use Rattle.std.proofs.lemmas.Bool.{or_parts}
@@ -12,7 +12,8 @@ use Rattle.smk_world.specs.Trees.{Path, first}
 use Rattle.smk_flow.specs.declared.job.Job.{Job}
 use Rattle.smk_store.specs.Stores.{Known}
 use Rattle.smk_trigger.specs.declared.reason.State.{State}
-use Rattle.smk_trigger.specs.JobStates.{is_to_run}
+use Rattle.smk_plan_states.specs.declared.ranks.Rank.{Rank}
+use Rattle.smk_plan_states.specs.Ranks.{is_to_run_rank}
 use Rattle.smk_pick.specs.declared.settings.Settings.{Settings}
 use Rattle.smk_plan.specs.declared.fault.PlanFault.{PlanFault}
 use Rattle.smk_plan.specs.declared.fault.PlanFault.TheVariants.{Protected}
@@ -81,7 +82,7 @@ module _ (store : List Known) (seen : List Sight) (settings : Settings) where
         ap (λ (fs : List PlanFault). fs ++ all_above settings.bounds jobs) (of.within parts.1) ∙ rest.1,
       )
 
-  free : (jobs : List Job) (suspects : List Suspect) → AreOf jobs suspects → (states : List State) (flags : List Bool) → may_be_stopped states suspects ≡ false →
+  free : (jobs : List Job) (suspects : List Suspect) → AreOf jobs suspects → (states : List Rank) (flags : List Bool) → may_be_stopped states suspects ≡ false →
       AreFree (before_in jobs states flags)
   free [] [] of states flags h = (refl, refl)
   free [] (s ∷ suspects) of states flags h = absurd of
@@ -89,8 +90,8 @@ module _ (store : List Known) (seen : List Sight) (settings : Settings) where
   free (j ∷ jobs) (s ∷ suspects) of [] flags h = (refl, refl)
   free (j ∷ jobs) (s ∷ suspects) of (t ∷ states) [] h = (refl, refl)
   free (j ∷ jobs) (s ∷ suspects) of (t ∷ states) (b ∷ flags) h =
-      let parts = or_parts (is_to_run t && (s.guarded || s.above)) (may_be_stopped states suspects) h in
-      one_free j s of.0 (before_in jobs states flags) (is_to_run t) b parts.0 (free jobs suspects of.1 states flags parts.1)
+      let parts = or_parts (is_to_run_rank t && (s.guarded || s.above)) (may_be_stopped states suspects) h in
+      one_free j s of.0 (before_in jobs states flags) (is_to_run_rank t) b parts.0 (free jobs suspects of.1 states flags parts.1)
 
   none_marked : (rerun : Bool) (idle : List Job) → ((not rerun) ≡ true → filter (is_marked_in store) (outputs_of idle) ≡ []) → marked_in store rerun idle ≡ []
   none_marked true idle h = refl
@@ -102,7 +103,7 @@ module _ (store : List Known) (seen : List Sight) (settings : Settings) where
 
   -- Where nothing may be refused, nothing is.
   pub none_refused : (jobs : List Job) (suspects : List Suspect) → AllZip (IsSuspectOf store seen settings.bounds) jobs suspects →
-      (kept : List (Option State)) (states : List State) (flags : List Bool) →
+      (kept : List (Option State)) (states : List Rank) (flags : List Bool) →
       may_be_refused settings.rerun_incomplete kept states suspects ≡ false →
       None ≡ first (refusals_in store seen settings (idle_in jobs kept) (before_in jobs states flags))
   none_refused jobs suspects of kept states flags h =
@@ -115,3 +116,9 @@ module _ (store : List Known) (seen : List Sight) (settings : Settings) where
       let guards : guarded_in seen front ≡ [] = ap (map Protected) ahead.0 in
       let all : refusals_in store seen settings (idle_in jobs kept) front ≡ [] = λ i. marks i ++ (guards i ++ ahead.1 i) in
       sym (ap first all)
+
+-- where there is no suspicion nothing is suspected
+pub stopped_end : (ranks : List Rank) (rest : List Suspect) → length rest ≡ 0 → may_be_stopped ranks rest ≡ false
+stopped_end [] rest e = refl
+stopped_end (r ∷ ranks) [] e = refl
+stopped_end (r ∷ ranks) (s ∷ rest) e = absurd (omega (arith, e))

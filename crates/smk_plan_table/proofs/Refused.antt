@@ -1,5 +1,5 @@
 -- What is refused by the parts of a plan is what is refused of the image with which they agree.
-use Rattle.std.proofs.Common.{◌≡◌, Bool, true, false, cond, ◌||◌, List, [], ◌∷◌, ◌++◌, map, Some, None, refl, sym, ap, ◌∙◌, append_assoc}
+use Rattle.std.proofs.Common.{◌≡◌, Bool, true, false, not, cond, ◌&&◌, ◌||◌, List, [], ◌∷◌, ◌++◌, map, Some, None, refl, sym, ap, ◌∙◌, append_assoc}
 use Rattle.std.specs.Prelude.{if◌then◌else◌, zip, nat_lt}
 use Rattle.std.specs.List.{filter, flat_map}
 use Rattle.std.proofs.lemmas.List.{map-append}
@@ -30,6 +30,10 @@ use Rattle.smk_report.specs.declared.fault.Fault.{Fault}
 use Rattle.smk_report.specs.declared.fault.Fault.TheVariants as fault
 use Rattle.smk_drive.specs.Moments.{Rules}
 use Rattle.smk_drive.specs.Refusals.{unless_empty, incomplete, guarded, above_limit, is_ahead, ahead, of_command, refused_of}
+use Rattle.smk_plan_states.specs.declared.ranks.Rank.{Rank}
+use Rattle.smk_trigger.specs.JobStates.{is_to_run}
+use Rattle.smk_plan_states.specs.Ranks.{rank_of}
+use Rattle.smk_plan_states.proofs.ByState.{run_of}
 use Rattle.smk_plan_table.specs.Parts.{is_marked_in, is_guarded_in, is_before, before_in, unless_none, marked_in, guarded_in, above_by, above_of, above_in, all_above, paths_in, outputs_of, refusals_in}
 use Rattle.smk_plan_table.specs.Plans.{begun_at, idle_at, IsUnrefused, fault_in}
 use Rattle.smk_plan_table.proofs.Lists.{each_join, each_front, each_back, filter_same, behind, none_there, each_flat, map_flat, tested}
@@ -49,7 +53,7 @@ of_outputs Q jobs h =
     each_flat (λ (j : Job). Each (λ (o : Out). Q o.path) (outs_of j.recipe)) Q (λ (j : Job). out_paths j.recipe) (λ (j : Job) k. of_items Q j.recipe.outputs k) jobs h
 
 -- what holds of each job holds of those that are ahead
-pub of_front : (P : Job → Type 0) (jobs : List Job) (states : List State) (flags : List Bool) → Each P jobs → Each P (before_in jobs states flags)
+pub of_front : (P : Job → Type 0) (jobs : List Job) (states : List Rank) (flags : List Bool) → Each P jobs → Each P (before_in jobs states flags)
 of_front P [] states flags h = tt
 of_front P (j ∷ jobs) [] flags h = tt
 of_front P (j ∷ jobs) (s ∷ states) [] h = tt
@@ -83,7 +87,7 @@ guarded_same image seen p e = ap (test_some (λ (s : Sight). s.guarded)) e.1
 -- ## Jobs that are ahead
 
 abbrev pub front_of : Progress → Plan → List Job
-front_of progress plan = before_in plan.jobs plan.states (begun_at progress plan.jobs)
+front_of progress plan = before_in plan.jobs (map rank_of plan.states) (begun_at progress plan.jobs)
 
 module _ (rules : Rules) (image : Image) (progress : Progress) (plan : Plan) where
   one_ahead : (b : Bool) (e : Job × State) (es : List (Job × State)) →
@@ -92,12 +96,12 @@ module _ (rules : Rules) (image : Image) (progress : Progress) (plan : Plan) whe
   one_ahead false e es = refl
 
   pub ahead_same : (jobs : List Job) (states : List State) →
-      before_in jobs states (begun_at progress jobs) ≡ map (λ (e : Job × State). e.0) (filter (is_ahead rules image progress plan) (zip jobs states))
+      before_in jobs (map rank_of states) (begun_at progress jobs) ≡ map (λ (e : Job × State). e.0) (filter (is_ahead rules image progress plan) (zip jobs states))
   ahead_same [] states = refl
   ahead_same (j ∷ jobs) [] = refl
   ahead_same (j ∷ jobs) (s ∷ states) =
-      ap (λ ks. (if is_before s (among progress.begun (job_path j)) then j ∷ [] else []) ++ ks) (ahead_same jobs states)
-      ∙ one_ahead (is_before s (among progress.begun (job_path j))) (j, s) (filter (is_ahead rules image progress plan) (zip jobs states))
+      (λ i. (if run_of s i && not (among progress.begun (job_path j)) then j ∷ [] else []) ++ ahead_same jobs states i)
+      ∙ one_ahead (is_to_run s && not (among progress.begun (job_path j))) (j, s) (filter (is_ahead rules image progress plan) (zip jobs states))
 
   -- ## One kind after the other
 
@@ -167,7 +171,7 @@ module _ (rules : Rules) (image : Image) (progress : Progress) (plan : Plan) whe
       ∙ ap (λ fs. incomplete rules image progress plan ++ fs)
       (map-append turn (guarded_in seen front) (all_above rules.settings.bounds front)
       ∙ ap (λ fs. fs ++ map turn (all_above rules.settings.bounds front))
-      (guards_same seen front (of_front (λ (j : Job). Each (λ (o : Out). IsSeenAs image seen o.path) (outs_of j.recipe)) plan.jobs plan.states (begun_at progress plan.jobs) h))
+      (guards_same seen front (of_front (λ (j : Job). Each (λ (o : Out). IsSeenAs image seen o.path) (outs_of j.recipe)) plan.jobs (map rank_of plan.states) (begun_at progress plan.jobs) h))
       ∙ ap (λ fs. map fault.Protected (filter (is_guarded image) (outputs_of front)) ++ fs)
       (map_flat turn (above_in rules.settings.bounds) (above_limit rules image progress plan) above_same front)
       ∙ ap (λ ks. map fault.Protected (filter (is_guarded image) (outputs_of ks)) ++ flat_map (above_limit rules image progress plan) ks) same)

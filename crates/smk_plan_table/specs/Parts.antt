@@ -16,7 +16,6 @@ use Rattle.smk_store.specs.Images.{readable}
 use Rattle.smk_store.specs.Stores.{Known, entry_of, is_covered_in}
 use Rattle.smk_chain.specs.declared.jobs.Known.{Known as Listed}
 use Rattle.smk_trigger.specs.declared.reason.State.{State}
-use Rattle.smk_trigger.specs.JobStates.{is_to_run}
 use Rattle.smk_pick.specs.declared.settings.Settings.{Settings}
 use Rattle.smk_pick.specs.Rooms.{amount}
 use Rattle.smk_plan.specs.declared.fault.PlanFault.{PlanFault}
@@ -25,6 +24,8 @@ use Rattle.smk_plan.specs.declared.seen.Sight.{Sight}
 use Rattle.smk_plan.specs.States.{job_path, test_some}
 use Rattle.smk_plan.specs.Sights.{sight_at}
 use Rattle.smk_plan_facts.specs.Telling.{is_file_stat}
+use Rattle.smk_plan_states.specs.declared.ranks.Rank.{Rank}
+use Rattle.smk_plan_states.specs.Ranks.{is_to_run_rank}
 use Rattle.smk_plan_states.specs.declared.lines.Target.{Target}
 use Rattle.smk_plan_table.specs.declared.suspects.Suspect.{Suspect}
 
@@ -47,15 +48,15 @@ abbrev pub is_guarded_in : List Sight → Path → Bool
 is_guarded_in seen p = test_some (λ (s : Sight). s.guarded) (sight_at seen p)
 
 -- it has to run and hasn't begun
-abbrev pub is_before : State → Bool → Bool
-is_before s begun = is_to_run s && not begun
+abbrev pub is_before : Rank → Bool → Bool
+is_before r begun = is_to_run_rank r && not begun
 
--- such jobs, each with its state and a flag for whether it has begun
-abbrev pub before_in : List Job → List State → List Bool → List Job
-before_in [] states flags = []
+-- such jobs, each with its rank and a flag for whether it has begun
+abbrev pub before_in : List Job → List Rank → List Bool → List Job
+before_in [] ranks flags = []
 before_in (j ∷ jobs) [] flags = []
-before_in (j ∷ jobs) (s ∷ states) [] = []
-before_in (j ∷ jobs) (s ∷ states) (b ∷ flags) = (if is_before s b then j ∷ [] else []) ++ before_in jobs states flags
+before_in (j ∷ jobs) (r ∷ ranks) [] = []
+before_in (j ∷ jobs) (r ∷ ranks) (b ∷ flags) = (if is_before r b then j ∷ [] else []) ++ before_in jobs ranks flags
 
 abbrev pub unless_none : List Path → List PlanFault
 unless_none [] = []
@@ -105,14 +106,14 @@ may_be_marked (k ∷ kept) [] = false
 may_be_marked (k ∷ kept) (s ∷ suspects) = (is_none k && s.marked) || may_be_marked kept suspects
 
 -- a read-only file may be in the way of a job that has to run, or it may ask more than a bound
-abbrev pub may_be_stopped : List State → List Suspect → Bool
+abbrev pub may_be_stopped : List Rank → List Suspect → Bool
 may_be_stopped [] suspects = false
-may_be_stopped (t ∷ states) [] = false
-may_be_stopped (t ∷ states) (s ∷ suspects) = (is_to_run t && (s.guarded || s.above)) || may_be_stopped states suspects
+may_be_stopped (r ∷ ranks) [] = false
+may_be_stopped (r ∷ ranks) (s ∷ suspects) = (is_to_run_rank r && (s.guarded || s.above)) || may_be_stopped ranks suspects
 
 -- something may be refused
-abbrev pub may_be_refused : Bool → List (Option State) → List State → List Suspect → Bool
-may_be_refused rerun kept states suspects = (not rerun && may_be_marked kept suspects) || may_be_stopped states suspects
+abbrev pub may_be_refused : Bool → List (Option State) → List Rank → List Suspect → Bool
+may_be_refused rerun kept ranks suspects = (not rerun && may_be_marked kept suspects) || may_be_stopped ranks suspects
 
 -- ## What is current
 

@@ -25,8 +25,12 @@ use Rattle.smk_drive.specs.Refusals.{incomplete, guarded, above_limit, ahead, re
 use Rattle.smk_plan_facts.specs.Facts.{having_run, told_sources, TellSources, AreMade, NamesAll, HasOwnRecords}
 use Rattle.smk_plan_states.specs.Served.{AreServed}
 use Rattle.smk_plan_states.specs.declared.rows.Rows.{Rows}
+use Rattle.smk_plan_states.specs.declared.table.Table.{Table}
 use Rattle.smk_plan_states.specs.Judged.{Judging, AreStates, with_states}
 use Rattle.smk_plan_states.specs.Rows.{AreRowsAt}
+use Rattle.smk_plan_states.specs.Standing.{states_by}
+use Rattle.smk_plan_states.specs.Stays.{Told as TellsRows}
+use Rattle.smk_plan_table.specs.declared.planning.Ranked.{Ranked}
 use Rattle.smk_plan_table.specs.declared.suspects.Suspect.{Suspect}
 use Rattle.smk_plan_table.specs.Parts.{IsSuspectOf}
 
@@ -102,6 +106,10 @@ pub record HasMadeAt (at : Judging) (jobs : Jobs) (told : Told) : Type 0 where
   pub current : told.current ≡ targets_current at jobs told.states
   pub known : told.known ≡ listings_known at jobs told.states
   pub unrefused : (rules : Rules) → rules.settings ≡ at.settings → IsUnrefused rules at.image at.progress (with_states jobs told.states)
+
+-- the plan by ranks, with the states that come of what is told of the jobs
+abbrev pub plan_by : Table → TellsRows → Ranked → Told
+plan_by table rows made = record { states = states_by table rows made.ranking; current = made.current; known = made.known }
 
 -- the same where these have begun and none runs
 abbrev pub HasMade : Image → Settings → List Path → Jobs → Told → Type 0

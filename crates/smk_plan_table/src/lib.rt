@@ -17,7 +17,7 @@ mod refusing;
 mod room;
 mod suspects;
 
-pub use planning::{Stood, plan, plan_now};
+pub use planning::{Ranked, plan, plan_now};
 pub use suspects::{Suspect, suspect_of, suspects_of};
 
 /// The law that derived jobs tell of each target that is a source.

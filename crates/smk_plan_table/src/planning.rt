@@ -1,17 +1,20 @@
 //! A plan of derived jobs.
 
-ghost use Rattle.std.specs.Prelude.{◌≡◌, ◌≢◌, length, IfOk, IfErr};
+ghost use Rattle.std.specs.Prelude.{◌≡◌, ◌≢◌, List as Items, length, map, IfOk, IfErr};
+ghost use Rattle.smk_world.specs.Trees.{Path};
 ghost use Rattle.smk_store.specs.Images.{Image};
 ghost use Rattle.smk_chain.specs.declared.jobs.Jobs.{Jobs as JobsValue};
 ghost use Rattle.smk_plan_states.specs.Judged.{AreStates};
 ghost use Rattle.smk_plan_states.specs.Rows.{AreRowsAt};
 ghost use Rattle.smk_plan_states.specs.Served.{AreServed};
-ghost use Rattle.smk_plan_states.specs.Standing.{FollowsBy, StandsBy};
+ghost use Rattle.smk_trigger.specs.declared.reason.State.{State as StateValue};
+ghost use Rattle.smk_plan_states.specs.Ranks.{rank_of};
+ghost use Rattle.smk_plan_states.specs.Standing.{FollowsBy, StandsBy, states_by};
 ghost use Rattle.smk_plan_states.specs.Stays.{told_by};
 ghost use Rattle.smk_plan_states.specs.Tables.{IsTableAt, IsTableOf};
 ghost use Rattle.smk_plan_table.specs.Bases.{IsBasisAt};
 ghost use Rattle.smk_plan_table.specs.Parts.{shown};
-ghost use Rattle.smk_plan_table.specs.Plans.{Agree, HasMade, HasMadeAt, IsGiven, IsRefused, IsRefusedAt, WhereAgreed, listings_known, targets_current};
+ghost use Rattle.smk_plan_table.specs.Plans.{Agree, HasMade, HasMadeAt, IsGiven, IsRefused, IsRefusedAt, WhereAgreed, listings_known, targets_current, plan_by};
 
 use crate::current::current;
 use crate::judging::{Basis, judge};
@@ -20,40 +23,43 @@ use crate::listings::listings_of;
 use crate::refusing::first_refusal;
 use crate::suspects::Suspect;
 use smk_base::{List, OutOfMemory, PathText};
-use smk_chain::Jobs;
+use smk_chain::{Jobs, Listings};
 use smk_pick::Settings;
 use smk_plan::{Loaded, Plan, PlanFault, Seen, Told};
-use smk_plan_states::{Last, Ranking, Rows, Standing, Table};
+use smk_plan_states::{Last, Ranking, Rows, Table};
 use smk_store::Store;
-use smk_trigger::{Reason, State};
+use smk_trigger::Reason;
 use std::alloc::Global;
 use std::thread::Threads;
 
-/// A plan, with what is kept of the ranks of its jobs for the next step.
+/// A plan by ranks: which targets are current, and the listings that have become known, with the ranks of the jobs in the place of their states.
 #[derive(Drop)]
-pub struct Stood {
-    pub plan: Plan,
+pub struct Ranked {
     pub ranking: Ranking,
+    pub current: List<bool>,
+    pub known: Listings,
 }
 
-// What a plan tells of jobs of these states.
+// What a plan tells of jobs of these ranks.
 fn tell<T: Told>(
     alloc: Global,
     table: &Table,
     told: &T,
     settings: &Settings,
     rows: &Rows<'_>,
-    states: List<State>,
-) -> Result<Plan, OutOfMemory>
+    ranking: Ranking,
+) -> Result<Ranked, OutOfMemory>
     ensures targets { IfOk result (λ made. length made.current ≡ length settings.now.targets) }
-    ensures states { IfOk result (λ made. made.states ≡ states) }
+    ensures ranking { IfOk result (λ made. made.ranking ≡ ranking) }
     ensures current { IfOk result (λ made. (jobs : JobsValue) → WhereAgreed jobs (T.known told.now) (T.seen told.now) settings.now
-        (λ at. IsTableAt at jobs table.now → AreRowsAt at jobs rows.now → length states ≡ length jobs.jobs → made.current ≡ targets_current at jobs states)) }
+        (λ at. IsTableAt at jobs table.now → AreRowsAt at jobs rows.now → (states : Items StateValue) → ranking.last.items ≡ map rank_of states → length states ≡ length jobs.jobs
+        → made.current ≡ targets_current at jobs states)) }
     ensures known { IfOk result (λ made. (jobs : JobsValue) → WhereAgreed jobs (T.known told.now) (T.seen told.now) settings.now
-        (λ at. IsTableAt at jobs table.now → AreRowsAt at jobs rows.now → length states ≡ length jobs.jobs → made.known ≡ listings_known at jobs states)) }
+        (λ at. IsTableAt at jobs table.now → AreRowsAt at jobs rows.now → (states : Items StateValue) → ranking.last.items ≡ map rank_of states → length states ≡ length jobs.jobs
+        → made.known ≡ listings_known at jobs states)) }
 {
-    let ready = table.ready_targets(alloc, rows, states.as_slice())?;
-    let folders = table.newly_ready(alloc, rows, states.as_slice())?;
+    let ready = table.ready_targets(alloc, rows, ranking.ranks())?;
+    let folders = table.newly_ready(alloc, rows, ranking.ranks())?;
     let are_current = current(
         alloc,
         told,
@@ -62,14 +68,14 @@ fn tell<T: Told>(
         ready.as_slice(),
     )?;
     let known = listings_of(alloc, told, folders.as_slice())?;
-    Ok(Plan {
-        states,
+    Ok(Ranked {
+        ranking,
         current: are_current,
         known,
     })
 }
 
-// The plan of jobs of these states, or the first thing that is refused of it.
+// The plan of jobs of these ranks, or the first thing that is refused of it.
 fn plan_by<T: Told>(
     alloc: Global,
     jobs: &Jobs,
@@ -79,22 +85,24 @@ fn plan_by<T: Told>(
     rows: &Rows<'_>,
     begun: &[bool],
     suspects: &[Suspect],
-    states: List<State>,
-) -> Result<Plan, PlanFault>
+    ranking: Ranking,
+) -> Result<Ranked, PlanFault>
     requires table { IsTableOf jobs.now settings.now.targets table.now }
-    requires each { length states ≡ length jobs.now.jobs }
+    requires each { length ranking.last.items ≡ length jobs.now.jobs }
     ensures targets { IfOk result (λ made. length made.current ≡ length settings.now.targets) }
-    ensures states { IfOk result (λ made. made.states ≡ states) }
+    ensures ranking { IfOk result (λ made. made.ranking ≡ ranking) }
     ensures made { IfOk result (λ made. WhereAgreed jobs.now (T.known told.now) (T.seen told.now) settings.now
-        (λ at. IsGiven at jobs.now (T.known told.now) (T.seen told.now) rows.now begun.now suspects.now → AreStates at jobs.now states → HasMadeAt at jobs.now made)) }
+        (λ at. IsGiven at jobs.now (T.known told.now) (T.seen told.now) rows.now begun.now suspects.now → (states : Items StateValue) → AreStates at jobs.now states
+        → ranking.last.items ≡ map rank_of states → HasMadeAt at jobs.now (record { states = states; current = made.current; known = made.known }))) }
     ensures refused { IfErr result (λ fault. fault ≢ PlanFault.OutOfMemory → WhereAgreed jobs.now (T.known told.now) (T.seen told.now) settings.now
-        (λ at. IsGiven at jobs.now (T.known told.now) (T.seen told.now) rows.now begun.now suspects.now → AreStates at jobs.now states → IsRefusedAt at jobs.now fault)) }
+        (λ at. IsGiven at jobs.now (T.known told.now) (T.seen told.now) rows.now begun.now suspects.now → (states : Items StateValue) → AreStates at jobs.now states
+        → ranking.last.items ≡ map rank_of states → IsRefusedAt at jobs.now fault)) }
 {
     match first_refusal(
         alloc,
         jobs.jobs.as_slice(),
         rows.running,
-        states.as_slice(),
+        ranking.ranks(),
         told,
         settings,
         begun,
@@ -102,7 +110,7 @@ fn plan_by<T: Told>(
     ) {
         Err(_) => Err(PlanFault::OutOfMemory),
         Ok(Some(fault)) => Err(fault),
-        Ok(None) => match tell(alloc, table, told, settings, rows, states) {
+        Ok(None) => match tell(alloc, table, told, settings, rows, ranking) {
             Err(_) => Err(PlanFault::OutOfMemory),
             Ok(made) => Ok(made),
         },
@@ -123,7 +131,8 @@ fn plan_by<T: Told>(
 /// The time is linear in the jobs with their inputs and outputs, by numbers; paths are looked up only of targets that are sources and of directories that have
 /// become ready, and of the outputs of jobs where something is suspected.
 ///
-/// `last` is what was kept before a step of one job, or nothing: then the states are told anew only where the step changes them, if no other job's rank does.
+/// `last` is what was kept before a step of one job, or nothing: then ranks are told anew only where the step changes them, if no other job's does. The states of
+/// the jobs are those by their ranks (`states` of a table).
 pub fn plan_now<T: Told>(
     alloc: Global,
     jobs: &Jobs,
@@ -134,29 +143,26 @@ pub fn plan_now<T: Told>(
     begun: &[bool],
     suspects: &[Suspect],
     last: Option<Last<'_>>,
-) -> Result<Stood, PlanFault>
+) -> Result<Ranked, PlanFault>
     requires table { IsTableOf jobs.now settings.now.targets table.now }
-    ensures each { IfOk result (λ made. length made.plan.states ≡ length jobs.now.jobs) }
-    ensures targets { IfOk result (λ made. length made.plan.current ≡ length settings.now.targets) }
+    ensures each { IfOk result (λ made. length made.ranking.last.items ≡ length jobs.now.jobs) }
+    ensures targets { IfOk result (λ made. length made.current ≡ length settings.now.targets) }
     ensures standing { IfOk result (λ made. AreServed jobs.now settings.now.targets → FollowsBy table.now last.entry (told_by rows.now)
-        → StandsBy table.now (told_by rows.now) (record { states = made.plan.states; ranking = made.ranking })) }
+        → StandsBy table.now (told_by rows.now) made.ranking) }
     ensures made { IfOk result (λ made. FollowsBy table.now last.entry (told_by rows.now) → WhereAgreed jobs.now (T.known told.now) (T.seen told.now) settings.now
-        (λ at. IsGiven at jobs.now (T.known told.now) (T.seen told.now) rows.now begun.now suspects.now → HasMadeAt at jobs.now made.plan)) }
+        (λ at. IsGiven at jobs.now (T.known told.now) (T.seen told.now) rows.now begun.now suspects.now → HasMadeAt at jobs.now (plan_by table.now (told_by rows.now) made))) }
+    ensures ranks { IfOk result (λ made. FollowsBy table.now last.entry (told_by rows.now) → WhereAgreed jobs.now (T.known told.now) (T.seen told.now) settings.now
+        (λ at. IsGiven at jobs.now (T.known told.now) (T.seen told.now) rows.now begun.now suspects.now
+        → made.ranking.last.items ≡ map rank_of (states_by table.now (told_by rows.now) made.ranking))) }
     ensures refused { IfErr result (λ fault. fault ≢ PlanFault.OutOfMemory → FollowsBy table.now last.entry (told_by rows.now)
         → WhereAgreed jobs.now (T.known told.now) (T.seen told.now) settings.now
         (λ at. IsGiven at jobs.now (T.known told.now) (T.seen told.now) rows.now begun.now suspects.now → IsRefusedAt at jobs.now fault)) }
 {
-    match table.standing(alloc, rows, last) {
+    match table.rank(alloc, rows, last) {
         Err(_) => Err(PlanFault::OutOfMemory),
-        Ok(standing) => {
-            let Standing { states, ranking } = standing;
-            match plan_by(
-                alloc, jobs, table, told, settings, rows, begun, suspects, states,
-            ) {
-                Err(fault) => Err(fault),
-                Ok(plan) => Ok(Stood { plan, ranking }),
-            }
-        }
+        Ok(ranking) => plan_by(
+            alloc, jobs, table, told, settings, rows, begun, suspects, ranking,
+        ),
     }
 }
 
@@ -175,6 +181,22 @@ fn lend<'b>(alloc: Global, basis: &'b Basis) -> Result<Lent<'b>, OutOfMemory>
     let outputs = references(alloc, basis.wholes.outputs.as_slice())?;
     let reasons = references(alloc, basis.judged.reasons.as_slice())?;
     Ok(Lent { outputs, reasons })
+}
+
+// The plan with the states of the jobs.
+fn spell(alloc: Global, table: &Table, rows: &Rows<'_>, made: Ranked) -> Result<Plan, PlanFault>
+    ensures ok { IfOk result (λ plan. plan ≡ plan_by table.now (told_by rows.now) made) }
+    ensures each { IfOk result (λ plan. (jobs : JobsValue) (targets : Items Path) → IsTableOf jobs targets table.now → length plan.states ≡ length jobs.jobs) }
+    ensures err { IfErr result (λ fault. fault ≡ PlanFault.OutOfMemory) }
+{
+    match table.states(alloc, rows, &made.ranking) {
+        Err(_) => Err(PlanFault::OutOfMemory),
+        Ok(states) => Ok(Plan {
+            states,
+            current: made.current,
+            known: made.known,
+        }),
+    }
 }
 
 // The plan of jobs by what is told of them, where none runs.
@@ -215,7 +237,7 @@ fn plan_of<T: Told>(
                 None,
             ) {
                 Err(fault) => Err(fault),
-                Ok(stood) => Ok(stood.plan),
+                Ok(made) => spell(alloc, &basis.table, &rows, made),
             }
         }
     }

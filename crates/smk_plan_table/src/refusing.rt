@@ -3,7 +3,6 @@
 ghost use Rattle.std.specs.Prelude.{◌≡◌, ◌++◌, ◌∷◌, [], IfOk, OnOk, if◌then◌else◌};
 ghost use Rattle.std.specs.List.{AllZip};
 ghost use Rattle.smk_world.specs.Trees.{first};
-ghost use Rattle.smk_trigger.specs.JobStates.{is_to_run};
 ghost use Rattle.smk_plan_table.specs.Parts.{shown, before_in, idle_in, marked_in, guarded_in, all_above, refusals_in, IsSuspectOf};
 
 use crate::doubting::may_be_refused;
@@ -16,20 +15,9 @@ use smk_base::OutOfMemory;
 use smk_flow::Job;
 use smk_pick::Settings;
 use smk_plan::{PlanFault, Told};
+use smk_plan_states::{Rank, is_to_run};
 use smk_trigger::State;
 use std::alloc::Global;
-
-/// Whether a job of this state has to run.
-pub(crate) fn has_to_run(state: &State) -> bool
-    ensures { result ≡ is_to_run state.now }
-{
-    match state {
-        State::Dirty(_) => true,
-        State::Restore => true,
-        State::Open => false,
-        State::Clean => false,
-    }
-}
 
 // Adds the job where this holds.
 fn push_if<'j>(found: &mut Vec<&'j Job>, holds: bool, job: &'j Job) -> Result<(), OutOfMemory>
@@ -46,22 +34,22 @@ fn push_if<'j>(found: &mut Vec<&'j Job>, holds: bool, job: &'j Job) -> Result<()
 fn ahead<'j>(
     alloc: Global,
     jobs: &'j [Job],
-    states: &[State],
+    ranks: &[Rank],
     begun: &[bool],
 ) -> Result<Vec<&'j Job>, OutOfMemory>
-    ensures { IfOk result (λ found. shown found.items ≡ before_in jobs.now states.now begun.now) }
+    ensures { IfOk result (λ found. shown found.items ≡ before_in jobs.now ranks.now begun.now) }
 {
     let mut found = Vec::new(alloc);
-    let mut rest = states;
+    let mut rest = ranks;
     let mut flags = begun;
     for job in jobs {
-        let Some((state, more)) = rest.split_first() else {
+        let Some((rank, more)) = rest.split_first() else {
             return Ok(found);
         };
         let Some((has_begun, others)) = flags.split_first() else {
             return Ok(found);
         };
-        push_if(&mut found, has_to_run(state) && !*has_begun, job)?;
+        push_if(&mut found, is_to_run(*rank) && !*has_begun, job)?;
         rest = more;
         flags = others;
     }
@@ -156,27 +144,27 @@ fn refused_of<T: Told>(
     }
 }
 
-/// The first thing that is refused of jobs of these states. `running` has for each the state that it had when it began, if its child runs, `begun` tells for each
+/// The first thing that is refused of jobs of these ranks. `running` has for each the state that it had when it began, if its child runs, `begun` tells for each
 /// whether it has begun, and `suspects` what may be refused of it: what isn't suspected of any isn't looked for.
 pub(crate) fn first_refusal<T: Told>(
     alloc: Global,
     jobs: &[Job],
     running: &[Option<State>],
-    states: &[State],
+    ranks: &[Rank],
     told: &T,
     settings: &Settings,
     begun: &[bool],
     suspects: &[Suspect],
 ) -> Result<Option<PlanFault>, OutOfMemory>
     ensures { IfOk result (λ found. AllZip (IsSuspectOf (T.known told.now) (T.seen told.now) settings.now.bounds) jobs.now suspects.now
-        → found ≡ first (refusals_in (T.known told.now) (T.seen told.now) settings.now (idle_in jobs.now running.now) (before_in jobs.now states.now begun.now))) }
+        → found ≡ first (refusals_in (T.known told.now) (T.seen told.now) settings.now (idle_in jobs.now running.now) (before_in jobs.now ranks.now begun.now))) }
 {
-    let is_doubted = may_be_refused(settings.rerun_incomplete, running, states, suspects);
+    let is_doubted = may_be_refused(settings.rerun_incomplete, running, ranks, suspects);
     if !is_doubted {
         return Ok(None);
     }
     let idle = idle_among(alloc, jobs, running)?;
-    let front = ahead(alloc, jobs, states, begun)?;
+    let front = ahead(alloc, jobs, ranks, begun)?;
     let found = refused_of(alloc, idle.as_slice(), front.as_slice(), told, settings)?;
     Ok(found)
 }

@@ -6,5 +6,5 @@ use Rattle.smk_plan_states.proofs.holding.may_be_held.Given as goal
 
 abbrev pub invariant-loop-i : goal.invariant-loop-i
 invariant-loop-i l =
-    list_any is_lent_lacking (zip l.states (zip l.used (lent l.outputs)))
-    ≡ list_any is_lent_lacking (zip (drop l.i l.states) (zip (drop l.i l.used) (lent (drop l.i l.outputs))))
+    list_any is_lent_lacking (zip l.ranks (zip l.used (lent l.outputs)))
+    ≡ list_any is_lent_lacking (zip (drop l.i l.ranks) (zip (drop l.i l.used) (lent (drop l.i l.outputs))))

@@ -9,6 +9,6 @@ invariant-loop-i l =
     record {
       each : length l.needed.items ≡ l.count;
       set : (n : ℕ) → n < l.count →
-          (slice_index_or l.needed.items n false || list_any (is_run_reader n) (zip (drop l.i l.lines) (drop l.i l.states)))
-          ≡ is_needed_in l.lines l.states n;
+          (slice_index_or l.needed.items n false || list_any (is_run_reader n) (zip (drop l.i l.lines) (drop l.i l.ranks)))
+          ≡ is_needed_in l.lines l.ranks n;
     }

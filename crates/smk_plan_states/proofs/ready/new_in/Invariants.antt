@@ -6,5 +6,5 @@ use Rattle.smk_plan_states.proofs.ready.new_in.Given as goal
 
 abbrev pub invariant-loop-one : goal.invariant-loop-one
 invariant-loop-one l =
-    l.found ++ map (λ a. a.path) (filter (is_new_awaited l.states (spot_in l.origins l.rows)) (drop l.one-index l.awaited))
-    ≡ map (λ a. a.path) (filter (is_new_awaited l.states (spot_in l.origins l.rows)) l.awaited)
+    l.found ++ map (λ a. a.path) (filter (is_new_awaited l.ranks (spot_in l.origins l.rows)) (drop l.one-index l.awaited))
+    ≡ map (λ a. a.path) (filter (is_new_awaited l.ranks (spot_in l.origins l.rows)) l.awaited)

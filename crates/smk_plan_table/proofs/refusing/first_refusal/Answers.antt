@@ -7,7 +7,7 @@ use Rattle.smk_plan_table.proofs.refusing.first_refusal.Goals as goal
 pub returns-then-not-is_doubted : goal.returns-then-not-is_doubted
 returns-then-not-is_doubted g c = λ of.
     none_refused (g.T.Told.known c.args.told.now) (g.T.Told.seen c.args.told.now) c.args.settings.now c.args.jobs.now c.args.suspects.now of
-    c.args.running.now c.args.states.now c.args.begun.now (sym c.may_be_refused-is_doubted.ensures ∙ c.if-not-is_doubted.true)
+    c.args.running.now c.args.ranks.now c.args.begun.now (sym c.may_be_refused-is_doubted.ensures ∙ c.if-not-is_doubted.true)
 
 pub returns : goal.returns
 returns g c = λ of.

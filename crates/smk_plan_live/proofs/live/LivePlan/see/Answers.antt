@@ -1,6 +1,6 @@
 use Rattle.std.proofs.Common.{◌≡◌, ◌<◌, Some, length, ap, subst, ◌∙◌}
 use Rattle.smk_plan_live.specs.declared.base.Base.{Base}
-use Rattle.smk_plan_live.specs.declared.live.LivePlan.{LivePlan}
+use Rattle.smk_plan_live.specs.Live.{LivePlan}
 use Rattle.smk_plan_live.specs.Carried.{sighted}
 use Rattle.smk_plan_live.specs.Lives.{IsLive, IsRefusedNow}
 use Rattle.smk_plan_live.specs.Steps.{IsAhead}

@@ -1,4 +1,4 @@
-use Rattle.std.proofs.Common.{map, Some, ap, subst, ◌∙◌}
+use Rattle.std.proofs.Common.{◌≡◌, map, Some, ap, subst, ◌∙◌}
 use Rattle.std.specs.Prelude.{slice_set}
 use Rattle.std.proofs.lemmas.Result.{IfOk-weaker, IfErr-weaker}
 use Rattle.smk_trigger.specs.declared.facts.JobFacts.{JobFacts}

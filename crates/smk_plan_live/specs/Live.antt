@@ -1,0 +1,33 @@
+-- A plan that is kept, as contracts see it.
+use Rattle.std.specs.Prelude.{Bool, List, ℕ, Vec}
+use Rattle.std.proofs.Common.{Global}
+use Rattle.smk_chain.specs.Derive.{Listings}
+use Rattle.smk_trigger.specs.declared.facts.JobFacts.{JobFacts}
+use Rattle.smk_trigger.specs.declared.reason.Reason.{Reason}
+use Rattle.smk_pick.specs.declared.settings.Settings.{Settings}
+use Rattle.smk_plan.specs.declared.plan.Plan.{Plan}
+use Rattle.smk_plan_states.specs.declared.standing.Ranking.{Ranking}
+use Rattle.smk_plan_states.specs.declared.table.Table.{Table}
+use Rattle.smk_plan_states.specs.Standing.{states_by}
+use Rattle.smk_plan_live.specs.declared.base.Base.{Base}
+use Rattle.smk_plan_live.specs.declared.flags.Flags.{Flags}
+use Rattle.smk_plan_live.specs.Kept.{told_kept}
+
+-- The parts of the plan, and the plan itself: its states aren't kept, but come of the ranks.
+pub record LivePlan : Type 0 where
+  pub base : Base
+  pub settings : Settings
+  pub facts : Vec JobFacts Global
+  pub reasons : Vec (List Reason) Global
+  pub plan : Plan
+  pub ranking : Ranking
+  pub held : Bool
+  pub table : Table
+  pub flags : Flags
+  pub readers : Vec (List ℕ) Global
+  pub commanded : Bool
+
+-- the plan by what is kept
+abbrev pub plan_kept : Base → List JobFacts → List (List Reason) → Ranking → List Bool → Listings → Table → Flags → Plan
+plan_kept base facts reasons ranking current known table flags =
+    record { states = states_by table (told_kept flags reasons facts base.began) ranking; current = current; known = known }
