@@ -24,9 +24,9 @@ use smk_flow::Job;
 use smk_plan::{Seen, Sight};
 use smk_plan_live::{LivePlan, Phase};
 use smk_plan_look::look;
+use smk_plan_states::{Rank, is_to_run};
 use smk_record::{Record, Stamp};
 use smk_store::{Entry, Kept, Store, load};
-use smk_trigger::State;
 use smk_world::{Failed, Out, OutItem, Recipe, Stat};
 use smk_world_mem::MemWork;
 use std::alloc::{AllocError, Global};
@@ -66,15 +66,10 @@ impl From<AllocError> for RowFault {
 }
 
 // How many of the jobs have to run.
-fn to_run(states: &[State]) -> u32 {
+fn to_run(ranks: &[Rank]) -> u32 {
     let mut count = 0u32;
-    for state in states {
-        match state {
-            State::Dirty(_) => count = count.saturating_add(1),
-            State::Restore => count = count.saturating_add(1),
-            State::Open => (),
-            State::Clean => (),
-        }
+    for rank in ranks {
+        count = count.saturating_add(u32::from(is_to_run(*rank)));
     }
     count
 }
@@ -276,7 +271,7 @@ fn grow<Rt: Threads + Sync>(
 
 // How many jobs have to run.
 fn left(live: &LivePlan) -> u32 {
-    to_run(live.as_plan().states.as_slice())
+    to_run(live.ranks())
 }
 
 // What is told of the first job's output.

@@ -87,12 +87,12 @@ fn input_in_words(live: &LivePlan) -> &'static str {
 }
 
 // The states of both jobs, and by what the second one's input is judged.
-fn told(alloc: Global, live: &LivePlan) -> Result<String, AllocError> {
-    let states = live.as_plan().states.as_slice();
-    let first = state_in_words(states, 0);
-    let last = state_in_words(states, 1);
+fn told(alloc: Global, live: &LivePlan) -> Result<String, RowFault> {
+    let states = live.states(alloc)?;
+    let first = state_in_words(states.as_slice(), 0);
+    let last = state_in_words(states.as_slice(), 1);
     let input = input_in_words(live);
-    format!(in alloc; "{first}, {last}, read by {input}")
+    Ok(format!(in alloc; "{first}, {last}, read by {input}")?)
 }
 
 // The first job begins and is closed; what is told before, meanwhile and after.

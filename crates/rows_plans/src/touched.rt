@@ -105,7 +105,8 @@ fn told_in<Rt: Threads + Sync>(
 ) -> Result<&'static str, RowFault> {
     prepare(alloc, work, record, bytes, time)?;
     let live = planned(rt, alloc, work)?;
-    Ok(first_in_words(live.as_plan().states.as_slice()))
+    let states = live.states(alloc)?;
+    Ok(first_in_words(states.as_slice()))
 }
 
 // The same, in a workspace of its own.

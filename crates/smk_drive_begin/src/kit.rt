@@ -50,13 +50,11 @@ pub(crate) fn ask_of(alloc: Global, job: &Job) -> Result<Ask, OutOfMemory>
 }
 
 /// Whether the job of the number is to be restored.
-pub(crate) fn is_restore(live: &LivePlan, job: u32) -> bool
-    ensures { result ≡ is_restored live.now job }
+pub(crate) fn is_restore(alloc: Global, live: &LivePlan, job: u32) -> Result<bool, OutOfMemory>
+    ensures { IfOk result (λ restored. restored ≡ is_restored live.now job) }
 {
-    matches!(
-        live.as_plan().states.as_slice().get(job as usize),
-        Some(State::Restore)
-    )
+    let state = live.state(alloc, job)?;
+    Ok(matches!(state, Some(State::Restore)))
 }
 
 /// Whether the job of the number hasn't begun.

@@ -87,12 +87,14 @@ pub(crate) fn kit_of(
     let Some(path) = first_output(job) else {
         return Err(Fault::OutOfMemory);
     };
-    let draws = !is_restore(&hub.live, number);
-    match serial_of(&hub.live, draws, hub.next, path) {
-        Err(fault) => Err(fault),
-        Ok(made) => match pack(alloc, ground, hub, number, job, path, draws, made) {
-            Ok(kit) => Ok(kit),
-            Err(OutOfMemory) => Err(Fault::OutOfMemory),
+    match is_restore(alloc, &hub.live, number) {
+        Err(_) => Err(Fault::OutOfMemory),
+        Ok(restored) => match serial_of(&hub.live, !restored, hub.next, path) {
+            Err(fault) => Err(fault),
+            Ok(made) => match pack(alloc, ground, hub, number, job, path, !restored, made) {
+                Ok(kit) => Ok(kit),
+                Err(OutOfMemory) => Err(Fault::OutOfMemory),
+            },
         },
     }
 }

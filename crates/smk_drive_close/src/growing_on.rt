@@ -19,7 +19,7 @@ fn is_whole(live: &LivePlan) -> bool
     ensures whole { result ≡ true → live.now.plan.known ≡ [] }
     ensures more { result ≡ false → live.now.plan.known ≢ [] }
 {
-    live.as_plan().known.is_empty()
+    live.known().is_empty()
 }
 
 /// Lets the plan grow as long as directories have become known, beside the children that run: in rounds, as each may make others known. In each the store is loaded

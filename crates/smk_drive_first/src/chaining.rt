@@ -39,7 +39,7 @@ fn chain_by<W: Files, Rt: Threads + Sync>(
     let mut lists = List::new(alloc);
     for _ in 0..u64::MAX {
         let found = make_round(rt, alloc, ground, &lists, work)?;
-        let known = &found.as_plan().known;
+        let known = found.known();
         if known.is_empty() {
             return Ok(found);
         }

@@ -112,15 +112,18 @@ fn checked(
     ensures not { IfErr result (λ f. (f ≡ fault.OutOfMemory)
         ⊎ (command_fault flow.now settings.now.cores (zip live.base.jobs.jobs live.plan.states) ≡ Some f)) }
 {
-    match check_commands(
-        alloc,
-        flow,
-        settings.cores,
-        &live.jobs().jobs,
-        &live.as_plan().states,
-    ) {
-        Ok(()) => Ok(live),
-        Err(fault) => Err(fault),
+    match live.states(alloc) {
+        Err(_) => Err(Fault::OutOfMemory),
+        Ok(states) => match check_commands(
+            alloc,
+            flow,
+            settings.cores,
+            &live.jobs().jobs,
+            &states,
+        ) {
+            Ok(()) => Ok(live),
+            Err(fault) => Err(fault),
+        },
     }
 }
 

@@ -55,7 +55,7 @@ fn check_grown(live: &LivePlan) -> Result<(), Fault>
     ensures ok { OnOk result (live.now.plan.known ≡ []) }
     ensures err { IfErr result (λ f. f ≡ fault.OutOfMemory) }
 {
-    if live.as_plan().known.is_empty() {
+    if live.known().is_empty() {
         Ok(())
     } else {
         Err(Fault::OutOfMemory)
@@ -84,7 +84,8 @@ fn check_jobs(
     if have_commands(settings, live) {
         return Ok(());
     }
-    let looked = looked_states(alloc, live.as_plan().states.as_slice(), live.phases())?;
+    let states = live.states(alloc)?;
+    let looked = looked_states(alloc, states.as_slice(), live.phases())?;
     check_commands(alloc, flow, settings.cores, &live.jobs().jobs, &looked)?;
     Ok(())
 }

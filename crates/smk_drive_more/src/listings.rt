@@ -18,6 +18,6 @@ pub(crate) fn listings_now(alloc: Global, live: &LivePlan) -> Result<Listings, F
 {
     let mut lists = List::new(alloc);
     add_listings(alloc, &mut lists, &live.jobs().lists)?;
-    add_listings(alloc, &mut lists, &live.as_plan().known)?;
+    add_listings(alloc, &mut lists, live.known())?;
     Ok(lists)
 }

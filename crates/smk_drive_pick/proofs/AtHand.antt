@@ -30,7 +30,8 @@ use Rattle.smk_plan_states.specs.Lines.{gathered_of, line_of, link_to, origin_of
 use Rattle.smk_plan_states.specs.Served.{IsToldOf, ReadEarlier, IsBelow}
 use Rattle.smk_plan_states.specs.Judged.{with_states}
 use Rattle.smk_plan_states.proofs.Tests.{any_map}
-use Rattle.smk_drive_pick.specs.Told.{is_lacking, is_missing, lacks_some}
+use Rattle.smk_drive_pick.specs.Told.{lacks_some}
+use Rattle.smk_drive_pick.proofs.ByRank.{state_lacking as is_lacking, state_missing as is_missing}
 use Rattle.smk_laws_plan.proofs.CurrentLists.{In, none_some, some_inj, clash_of, or_first, find_in, in_left, in_right, in_either, flat_in, any_in}
 use Rattle.smk_laws_plan.proofs.CurrentLists.{any_from}
 use Rattle.smk_laws_plan.proofs.CurrentPaths.{in_among}

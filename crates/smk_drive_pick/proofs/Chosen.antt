@@ -1,5 +1,5 @@
 -- The best by what is told is the first of those that may begin and have the greatest priority.
-use Rattle.std.proofs.Common.{◌≡◌, ◌∙◌, ℕ, ◌+◌, Bool, ◌&&◌, List, ◌∷◌, zip, ap, subst, arith, Some, None, option_map}
+use Rattle.std.proofs.Common.{◌≡◌, ◌∙◌, ℕ, ◌+◌, Bool, ◌&&◌, List, ◌∷◌, map, zip, ap, subst, arith, Some, None, option_map}
 use Rattle.std.specs.List.{slice_get}
 use Rattle.smk_base.specs.declared.tree.Amount.{Amount}
 use Rattle.smk_flow.specs.declared.job.Job.{Job}
@@ -10,6 +10,7 @@ use Rattle.smk_pick.specs.Shares.{Holds}
 use Rattle.smk_trigger.specs.declared.reason.State.{State}
 use Rattle.smk_plan.specs.States.{staged}
 use Rattle.smk_plan_states.specs.Judged.{Judging}
+use Rattle.smk_plan_states.specs.Ranks.{rank_of}
 use Rattle.smk_drive.specs.Lawful.{ask_of, first_of}
 use Rattle.smk_plan_live.specs.Live.{LivePlan}
 use Rattle.smk_plan_live.specs.Lives.{IsLive}
@@ -18,6 +19,7 @@ use Rattle.smk_drive_pick.specs.declared.next.Ground.{Ground}
 use Rattle.smk_drive_pick.specs.Picking.{AreToldOf, is_free, may_begin, plan_of, wrapped}
 use Rattle.smk_drive_pick.specs.Told.{best_from}
 use Rattle.smk_drive_pick.specs.Grounds.{IsGroundOf, may_begin_by}
+use Rattle.smk_drive_pick.proofs.ByRank.{best_by}
 use Rattle.smk_drive_pick.proofs.Firsts.{best_is, best_same}
 use Rattle.smk_drive_pick.proofs.Freed.{free_is, whole_now}
 use Rattle.smk_drive_pick.proofs.Rooms.{fits_beside}
@@ -30,13 +32,17 @@ pub next_is :
     (at : Judging) (live : LivePlan) (told : Ground) → IsLive live → AreToldOf at live (whole_now live) → IsGroundOf live told →
     (cores : ℕ) (bounds : List Amount) (room : Room) (asks : List Ask) → Holds cores bounds room asks →
     option_map (slice_get (staged (plan_of live)))
-    (option_map (λ (b : Best). b.number) (best_from (may_begin_by told room) 0 None (zip live.base.jobs.jobs live.plan.states)))
+    (option_map (λ (b : Best). b.number) (best_from (may_begin_by told room) 0 None (zip live.base.jobs.jobs (map rank_of live.plan.states))))
     ≡ option_map wrapped (first_of (may_begin at (plan_of live) cores bounds asks))
 next_is at live told alive judged is cores bounds room asks holds =
     ap (λ o. option_map (slice_get (staged (plan_of live))) (option_map (λ (b : Best). b.number) o))
-    (best_same (may_begin_by told room) (passes at live cores bounds asks) 0 None (staged (plan_of live))
-    (λ n e there. subst (λ m. may_begin_by told room m e ≡ passes at live cores bounds asks e) (omega arith) (one n e there)))
+    (best_by (may_begin_by told room) 0 None live.base.jobs.jobs live.plan.states
+    ∙ best_same by_rank (passes at live cores bounds asks) 0 None (staged (plan_of live))
+    (λ n e there. subst (λ m. by_rank m e ≡ passes at live cores bounds asks e) (omega arith) (one n e there)))
     ∙ best_is (passes at live cores bounds asks) (staged (plan_of live))
   where
-    one : (n : ℕ) (e : Job × State) → slice_get (staged (plan_of live)) n ≡ Some e → may_begin_by told room n e ≡ passes at live cores bounds asks e
+    abbrev by_rank : ℕ → Job × State → Bool
+    by_rank n e = may_begin_by told room n (e.0, rank_of e.1)
+
+    one : (n : ℕ) (e : Job × State) → slice_get (staged (plan_of live)) n ≡ Some e → by_rank n e ≡ passes at live cores bounds asks e
     one n e there = λ k. free_is at live told alive judged is n e there k && fits_beside cores bounds room asks (ask_of e.0) holds k

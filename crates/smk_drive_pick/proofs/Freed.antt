@@ -18,6 +18,8 @@ use Rattle.smk_plan_facts.specs.Facts.{IsMade}
 use Rattle.smk_plan_facts.specs.Telling.{directories_of, is_told_whole, wholes_in}
 use Rattle.smk_plan_states.specs.Judged.{Judging, began, with_states}
 use Rattle.smk_plan_states.specs.Lines.{line_of}
+use Rattle.smk_plan_states.specs.Ranks.{rank_of}
+use Rattle.smk_plan_states.proofs.ByState.{run_of}
 use Rattle.smk_plan_states.specs.Served.{AreServed}
 use Rattle.smk_plan_states.specs.Tables.{IsTableAt, IsTableOf}
 use Rattle.smk_plan_live.specs.Live.{LivePlan}
@@ -37,6 +39,7 @@ use Rattle.smk_drive_pick.proofs.Links.{first_at, flags_by, map_at, there}
 use Rattle.smk_drive_pick.proofs.Lists.{and_over}
 use Rattle.smk_drive_pick.proofs.Owners.{jobs_apart_from}
 use Rattle.smk_drive_pick.proofs.AtHand.{lacks_is}
+use Rattle.smk_drive_pick.proofs.ByRank.{missing_by}
 
 -- what is whole by what is known and was seen now
 abbrev pub whole_now : LivePlan → Wholes
@@ -121,14 +124,15 @@ module _
     hands_are :
         not (lacks_by told n) ≡ list_all (is_at_hand at.image at.settings at.progress (plan_of live)) (in_paths j.recipe ++ awaits (plan_of live) j)
     hands_are =
-        ap (λ o. not (test_some (lacks_some (is_missing told.hands.states.now told.hands.origins.now told.hands.wholes.now)) o)) line_is
-        ∙ ap (λ states. not (lacks_some (is_missing states told.hands.origins.now told.hands.wholes.now) (line_of J asked j))) is.states
+        ap (λ o. not (test_some (lacks_some (is_missing told.hands.ranks.now told.hands.origins.now told.hands.wholes.now)) o)) line_is
+        ∙ ap (λ ranks. not (lacks_some (is_missing ranks told.hands.origins.now told.hands.wholes.now) (line_of J asked j))) (is.ranks ∙ judged.ranks)
+        ∙ (λ i. not (lacks_some (λ link. missing_by ss told.hands.origins.now told.hands.wholes.now link i) (line_of J asked j)))
         ∙ lacks_is at.image at.settings at.progress J ss judged.each apart judged.served.reads j (there J.jobs n j here)
         told.hands.origins.now told.hands.wholes.now (is.origins ∙ alive.table.origins) flags_are asked
 
-    pub free_is : is_free_by told n e.1 ≡ is_free at (plan_of live) e
+    pub free_is : is_free_by told n (rank_of e.1) ≡ is_free at (plan_of live) e
     free_is =
-        (λ i. is_to_run e.1 && (not (begun_is i) && (hands_are i && not (used_is i))))
+        (λ i. run_of e.1 i && (not (begun_is i) && (hands_are i && not (used_is i))))
         ∙ sym (and_over (is_to_run e.1) (not (among at.progress.begun (job_path e.0)))
         (list_all (is_at_hand at.image at.settings at.progress (plan_of live)) (in_paths e.0.recipe ++ awaits (plan_of live) e.0))
         (not (is_read_now at.image at.settings at.progress (plan_of live) e.0)))

@@ -1,8 +1,8 @@
 -- Where too little is left for a job that asks for no amounts, too little is left for it with amounts.
-use Rattle.std.proofs.Common.{◌≡◌, ℕ, ◌+◌, arith, Bool, true, false, not, ◌&&◌, List, [], ◌∷◌, refl, sym, ◌∙◌, true≢false, ap, Option, Some, None}
-use Rattle.std.specs.Prelude.{nat_le, if◌then◌else◌}
+use Rattle.std.proofs.Common.{◌≡◌, ℕ, ◌+◌, arith, Bool, true, false, not, ◌&&◌, ◌||◌, List, [], ◌∷◌, refl, sym, ◌∙◌, true≢false, ap, Option, Some, None}
+use Rattle.std.specs.Prelude.{nat_le, if◌then◌else◌, slice_index_or}
 use Rattle.std.proofs.Math.Bool.{and-false}
-use Rattle.std.specs.List.{list_all}
+use Rattle.std.specs.List.{list_all, slice_get}
 use Rattle.std.proofs.lemmas.Bool.{and_from}
 use Rattle.std.proofs.lemmas.Bool.Decides.{nat_tests}
 use Rattle.smk_base.specs.declared.tree.Amount.{Amount}
@@ -12,11 +12,14 @@ use Rattle.smk_pick.specs.declared.room.Share.{Share}
 use Rattle.smk_pick.specs.Rooms.{amount, threads_in}
 use Rattle.smk_pick.specs.Shares.{has_room, fits_in}
 use Rattle.smk_drive.specs.Lawful.{ask_of}
-use Rattle.smk_trigger.specs.declared.reason.State.{State}
+use Rattle.smk_plan.specs.States.{test_some}
+use Rattle.smk_plan_states.specs.declared.ranks.Rank.{Rank}
+use Rattle.smk_plan_states.specs.Ranks.{is_to_run_rank}
+use Rattle.smk_plan_live.specs.Phases.{has_begun}
 use Rattle.smk_laws_plan.proofs.CurrentLists.{and_left, and_right}
 use Rattle.smk_drive_pick.specs.declared.next.Best.{Best}
 use Rattle.smk_drive_pick.specs.declared.next.Ground.{Ground}
-use Rattle.smk_drive_pick.specs.Grounds.{is_free_by, may_begin_by}
+use Rattle.smk_drive_pick.specs.Grounds.{is_free_by, lacks_by, may_begin_by}
 use Rattle.smk_drive_pick.specs.Told.{better, if_passes}
 
 less : (used asked bound : ℕ) → nat_le (used + asked) bound ≡ true → nat_le (used + 0) bound ≡ true
@@ -46,15 +49,31 @@ full_for room job none fits bare is h =
     go true bare false k h = refl
     go true bare true k h = absurd (true≢false (sym (k refl) ∙ h))
 
+stays : (best : Option Best) → better best None ≡ best
+stays None = refl
+stays (Some b) = refl
+
 -- the best so far stays, where the room is full for the job
 pub stays_full :
-    (told : Ground) (room : Room) (job : Job) (best : Option Best) (n : ℕ) (state : State) → fits_in room (ask_of job) ≡ false →
-    better best (if_passes (may_begin_by told room n) n (job, state)) ≡ best
-stays_full told room job best n state full =
+    (told : Ground) (room : Room) (job : Job) (best : Option Best) (n : ℕ) (rank : Rank) → fits_in room (ask_of job) ≡ false →
+    better best (if_passes (may_begin_by told room n) n (job, rank)) ≡ best
+stays_full told room job best n rank full =
     ap (λ (b : Bool). better best (if b then Some (record { number = n; priority = job.priority }) else None))
-    (ap (λ b. is_free_by told n state && b) full ∙ and-false (is_free_by told n state))
-    ∙ none best
+    (ap (λ b. is_free_by told n rank && b) full ∙ and-false (is_free_by told n rank))
+    ∙ stays best
+
+-- or the job isn't to run or has begun
+pub stays_out :
+    (told : Ground) (room : Room) (job : Job) (best : Option Best) (n : ℕ) (rank : Rank) →
+    (not (is_to_run_rank rank) || test_some has_begun (slice_get told.phases.now n)) ≡ true →
+    better best (if_passes (may_begin_by told room n) n (job, rank)) ≡ best
+stays_out told room job best n rank out =
+    ap (λ (b : Bool). better best (if b then Some (record { number = n; priority = job.priority }) else None))
+    (ap (λ b. b && fits_in room (ask_of job))
+    (go (is_to_run_rank rank) (test_some has_begun (slice_get told.phases.now n)) (not (lacks_by told n) && not (slice_index_or told.used.items n false)) out))
+    ∙ stays best
   where
-    none : (o : Option Best) → better o None ≡ o
-    none None = refl
-    none (Some b) = refl
+    go : (runs begun x : Bool) → (not runs || begun) ≡ true → (runs && (not begun && x)) ≡ false
+    go false begun x h = refl
+    go true true x h = refl
+    go true false x h = absurd (true≢false (sym h))

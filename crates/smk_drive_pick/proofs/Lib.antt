@@ -1,6 +1,7 @@
 mod Lists
 mod Links
 mod Owners
+mod ByRank
 mod AtHand
 mod Freed
 mod Firsts

@@ -26,9 +26,10 @@ use Rattle.smk_plan_states.proofs.Tests.{any_never}
 use Rattle.smk_laws_plan.proofs.CurrentLists.{In, clash_of, in_left, none_some, some_inj, zip_first}
 use Rattle.smk_laws_plan.proofs.PlanStates.{any_same}
 use Rattle.smk_drive_pick.specs.Told.{has_flag}
-use Rattle.smk_drive_pick.specs.Spending.{need_all, need_each, need_of, with_need}
+use Rattle.smk_drive_pick.specs.Spending.{need_each, with_need}
 use Rattle.smk_drive_pick.proofs.AtHand.{reads_told}
 use Rattle.smk_drive_pick.proofs.Awaiting.{named}
+use Rattle.smk_drive_pick.proofs.ByRank.{state_need_all as need_all, state_need_of as need_of}
 use Rattle.smk_drive_pick.proofs.Links.{any_inputs, place_at, place_found}
 
 -- ## Flags

@@ -14,6 +14,7 @@ use Rattle.smk_plan.specs.declared.wholes.Wholes.{Wholes}
 use Rattle.smk_plan.specs.States.{Plan, is_held_back, is_input, is_spent, makes_awaited, staged}
 use Rattle.smk_plan_states.specs.declared.lines.Line.{Line}
 use Rattle.smk_plan_states.specs.Judged.{Judging, any_held_back}
+use Rattle.smk_plan_states.specs.Ranks.{rank_of}
 use Rattle.smk_plan_states.specs.Lines.{feeds, line_of, origin_of, temp_of}
 use Rattle.smk_plan_states.specs.Tables.{IsTableOf}
 use Rattle.smk_plan_live.specs.Live.{LivePlan}
@@ -22,8 +23,9 @@ use Rattle.smk_laws_plan.proofs.CurrentPaths.{in_among}
 use Rattle.smk_laws_plan.proofs.CurrentRecipes.{flat_same}
 use Rattle.smk_laws_plan.proofs.PlanStates.{filter_same}
 use Rattle.smk_drive_pick.specs.Picking.{AreToldOf, plan_of}
-use Rattle.smk_drive_pick.specs.Spending.{has_any, has_temps, is_done_with, is_ripe, may_go, need_all, ripe_by, ripe_in, ripe_paths, spent_now}
+use Rattle.smk_drive_pick.specs.Spending.{has_any, has_temps, is_ripe, may_go, need_all, ripe_in, ripe_paths, spent_now}
 use Rattle.smk_drive_pick.proofs.Awaiting.{feeds_is}
+use Rattle.smk_drive_pick.proofs.ByRank.{need_by, ripe_ranks, state_done, state_need_all, state_ripe_by, state_ripe_in}
 use Rattle.smk_drive_pick.proofs.Needs.{needed_is, noted}
 
 -- ## Booleans
@@ -139,13 +141,13 @@ module _ (at : Judging) (live : LivePlan) (wholes : Wholes) (judged : AreToldOf 
       empty [] e = refl
       empty (p ∷ ps) e = absurd (clash_of true refl e)
 
-  pub none_undone : list_all is_done_with live.plan.states ≡ false → spent_now at live ≡ []
+  pub none_undone : list_all state_done live.plan.states ≡ false → spent_now at live ≡ []
   none_undone h =
       flat_none (λ (e : Job × State). filter (goes_now e) e.0.temps) (staged P)
       (λ e i. filter_none (goes_now e) e.0.temps
       (λ p k. undone_bool (among e.0.temps p) (not (makes_awaited at.image at.settings at.progress P e.0))
       (not (among at.settings.targets p)) (is_clean e.1)
-      (not (is_input P (λ (k : Job × State). not (is_clean k.1)) p)) (list_all is_done_with live.plan.states)
+      (not (is_input P (λ (k : Job × State). not (is_clean k.1)) p)) (list_all state_done live.plan.states)
       (list_all (λ j. not (held j)) live.base.jobs.jobs) (may_go live p) h))
 
   pub none_while_held : any_held_back at live.base.jobs live.plan.states ≡ true → spent_now at live ≡ []
@@ -154,7 +156,7 @@ module _ (at : Judging) (live : LivePlan) (wholes : Wholes) (judged : AreToldOf 
       (λ e i. filter_none (goes_now e) e.0.temps
       (λ p k. unheld_bool (among e.0.temps p) (not (makes_awaited at.image at.settings at.progress P e.0))
       (not (among at.settings.targets p)) (is_clean e.1)
-      (not (is_input P (λ (k : Job × State). not (is_clean k.1)) p)) (list_all is_done_with live.plan.states)
+      (not (is_input P (λ (k : Job × State). not (is_clean k.1)) p)) (list_all state_done live.plan.states)
       (list_all (λ j. not (held j)) live.base.jobs.jobs) (may_go live p)
       (none_held held live.base.jobs.jobs ∙ ap not h)))
 
@@ -185,7 +187,7 @@ module _ (at : Judging) (live : LivePlan) (wholes : Wholes) (judged : AreToldOf 
     targets_are p = ap (λ (s : Settings). among s.targets p) (sym judged.settings)
 
     ripe_one :
-        (e : Job × State) → list_all is_done_with ss ≡ true → any_held_back at J ss ≡ false → ripe_by live needed (e.0, (line e.0, e.1))
+        (e : Job × State) → list_all state_done ss ≡ true → any_held_back at J ss ≡ false → state_ripe_by live needed (e.0, (line e.0, e.1))
         ≡ filter (goes_now e) e.0.temps
     ripe_one e done unheld = one (is_clean e.1 && not (feeds J asked e.0)) refl
       where
@@ -201,25 +203,29 @@ module _ (at : Judging) (live : LivePlan) (wholes : Wholes) (judged : AreToldOf 
             (λ p k. (λ i. not (targets_are p i) && (not (needed_is J ss judged.served.reads asked p i) && may_go live p))
             ∙ sym (ripe_bool (among e.0.temps p) (not (makes_awaited at.image at.settings at.progress P e.0))
             (not (among at.settings.targets p)) (is_clean e.1)
-            (not (is_input P (λ (k : Job × State). not (is_clean k.1)) p)) (list_all is_done_with live.plan.states)
+            (not (is_input P (λ (k : Job × State). not (is_clean k.1)) p)) (list_all state_done live.plan.states)
             (list_all (λ j. not (held j)) live.base.jobs.jobs) (may_go live p)
             (in_among e.0.temps p k) (sym same_makes ∙ h) done (none_held held live.base.jobs.jobs ∙ ap not unheld)))
         one false h =
             sym (filter_none (goes_now e) e.0.temps
             (λ p k. unripe_bool (among e.0.temps p) (not (makes_awaited at.image at.settings at.progress P e.0))
             (not (among at.settings.targets p)) (is_clean e.1)
-            (not (is_input P (λ (k : Job × State). not (is_clean k.1)) p)) (list_all is_done_with live.plan.states)
+            (not (is_input P (λ (k : Job × State). not (is_clean k.1)) p)) (list_all state_done live.plan.states)
             (list_all (λ j. not (held j)) live.base.jobs.jobs) (may_go live p)
             (sym same_makes ∙ h)))
 
     pub ripe_is :
-        list_all is_done_with ss ≡ true → any_held_back at J ss ≡ false →
-        ripe_in live (need_all (replicate (length live.table.origins) false) (zip live.table.lines ss)) (zip J.jobs (zip live.table.lines ss))
+        list_all state_done ss ≡ true → any_held_back at J ss ≡ false →
+        ripe_in live (need_all (replicate (length live.table.origins) false) (zip live.table.lines (map rank_of ss)))
+        (zip J.jobs (zip live.table.lines (map rank_of ss)))
         ≡ spent_now at live
     ripe_is done unheld =
-        (λ i. ripe_in live (need_all (replicate (counted i) false) (zip (lined.lines i) ss)) (zip J.jobs (zip (lined.lines i) ss)))
-        ∙ flat_zipped line (ripe_by live needed) J.jobs ss
-        ∙ flat_same (λ (e : Job × State). ripe_by live needed (e.0, (line e.0, e.1))) (λ (e : Job × State). filter (goes_now e) e.0.temps) (staged P)
+        ripe_ranks live (need_all (replicate (length live.table.origins) false) (zip live.table.lines (map rank_of ss))) J.jobs live.table.lines ss
+        ∙ ap (λ flags. state_ripe_in live flags (zip J.jobs (zip live.table.lines ss)))
+        (need_by (replicate (length live.table.origins) false) live.table.lines ss)
+        ∙ (λ i. state_ripe_in live (state_need_all (replicate (counted i) false) (zip (lined.lines i) ss)) (zip J.jobs (zip (lined.lines i) ss)))
+        ∙ flat_zipped line (state_ripe_by live needed) J.jobs ss
+        ∙ flat_same (λ (e : Job × State). state_ripe_by live needed (e.0, (line e.0, e.1))) (λ (e : Job × State). filter (goes_now e) e.0.temps) (staged P)
         (λ e i. ripe_one e done unheld)
       where
         counted : length live.table.origins ≡ length J.makers

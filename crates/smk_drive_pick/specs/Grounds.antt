@@ -2,12 +2,12 @@
 use Rattle.std.specs.Prelude.{◌≡◌, ℕ, Bool, false, ◌&&◌, not, [], map, slice_index_or}
 use Rattle.std.specs.List.{slice_get}
 use Rattle.smk_flow.specs.declared.job.Job.{Job}
-use Rattle.smk_trigger.specs.declared.reason.State.{State}
-use Rattle.smk_trigger.specs.JobStates.{is_to_run}
 use Rattle.smk_pick.specs.declared.room.Room.{Room}
 use Rattle.smk_pick.specs.Shares.{fits_in}
 use Rattle.smk_plan.specs.States.{is_read_now, test_some}
+use Rattle.smk_plan_states.specs.declared.ranks.Rank.{Rank}
 use Rattle.smk_plan_states.specs.Judged.{Judging, began, with_states}
+use Rattle.smk_plan_states.specs.Ranks.{is_to_run_rank}
 use Rattle.smk_plan_states.specs.Tables.{IsTableAt}
 use Rattle.smk_drive.specs.Lawful.{ask_of}
 use Rattle.smk_plan_live.specs.Live.{LivePlan}
@@ -21,7 +21,7 @@ pub record IsGroundOf (live : LivePlan) (told : Ground) : Type 0 where
   pub phases : told.phases.now ≡ live.base.phases
   pub origins : told.hands.origins.now ≡ live.table.origins
   pub wholes : told.hands.wholes.now ≡ live.flags.makers
-  pub states : told.hands.states.now ≡ live.plan.states
+  pub ranks : told.hands.ranks.now ≡ live.ranking.last.items
   -- from which jobs the children of others read
   pub used :
       (at : Judging) → IsTableAt at live.base.jobs live.table → live.base.began ≡ began at live.base.jobs →
@@ -29,14 +29,14 @@ pub record IsGroundOf (live : LivePlan) (told : Ground) : Type 0 where
 
 -- something that the job of the number needs isn't at hand
 abbrev pub lacks_by : Ground → ℕ → Bool
-lacks_by told n = test_some (lacks_some (is_missing told.hands.states.now told.hands.origins.now told.hands.wholes.now)) (slice_get told.lines.now n)
+lacks_by told n = test_some (lacks_some (is_missing told.hands.ranks.now told.hands.origins.now told.hands.wholes.now)) (slice_get told.lines.now n)
 
--- the job of the number, with this state, may begin by what is told
-abbrev pub is_free_by : Ground → ℕ → State → Bool
-is_free_by told n s =
-    is_to_run s
+-- the job of the number, of this rank, may begin by what is told
+abbrev pub is_free_by : Ground → ℕ → Rank → Bool
+is_free_by told n r =
+    is_to_run_rank r
     && (not (test_some has_begun (slice_get told.phases.now n)) && (not (lacks_by told n) && not (slice_index_or told.used.items n false)))
 
 -- and fits into the room
-abbrev pub may_begin_by : Ground → Room → ℕ → Job × State → Bool
+abbrev pub may_begin_by : Ground → Room → ℕ → Job × Rank → Bool
 may_begin_by told room n e = is_free_by told n e.1 && fits_in room (ask_of e.0)

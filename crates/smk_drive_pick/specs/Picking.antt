@@ -1,5 +1,5 @@
 -- Which jobs of a kept plan may begin.
-use Rattle.std.specs.Prelude.{◌≡◌, ℕ, Bool, ◌&&◌, not, List, ◌∷◌, bytes_eq, filter, length, Option, Some, option_map}
+use Rattle.std.specs.Prelude.{◌≡◌, ℕ, Bool, ◌&&◌, not, List, ◌∷◌, bytes_eq, filter, length, map, Option, Some, option_map}
 use Rattle.std.specs.List.{find, slice_get}
 use Rattle.smk_base.specs.declared.tree.Amount.{Amount}
 use Rattle.smk_world.specs.Trees.{Path, among}
@@ -13,6 +13,7 @@ use Rattle.smk_plan.specs.declared.wholes.Wholes.{Wholes}
 use Rattle.smk_plan.specs.Sights.{wholes_of}
 use Rattle.smk_plan.specs.States.{Plan, Progress, is_startable, is_read_now, staged}
 use Rattle.smk_plan_states.specs.Judged.{Judging}
+use Rattle.smk_plan_states.specs.Ranks.{rank_of}
 use Rattle.smk_plan_states.specs.Served.{AreServed}
 use Rattle.smk_drive.specs.Lawful.{ask_of, first_of}
 use Rattle.smk_plan_live.specs.Live.{LivePlan}
@@ -31,13 +32,14 @@ pub record AreAlike (a b : Progress) : Type 0 where
   pub begun : (name : Path) → among a.begun name ≡ among b.begun name
   pub running : (name : Path) → child_state a name ≡ child_state b name
 
--- The jobs of the kept plan are judged so: by its settings and by what has begun. There is a state for each job; it is told which job makes what they want, and
--- this is whole.
+-- The jobs of the kept plan are judged so: by its settings and by what has begun. There is a state for each job, of the rank that is kept of it; it is told which job
+-- makes what they want, and this is whole.
 pub record AreToldOf (at : Judging) (live : LivePlan) (wholes : Wholes) : Type 0 where
   pub settings : at.settings ≡ live.settings
   pub progress : AreAlike at.progress (progress_of live.base)
   pub served : AreServed live.base.jobs live.settings.targets
   pub each : length live.plan.states ≡ length live.base.jobs.jobs
+  pub ranks : live.ranking.last.items ≡ map rank_of live.plan.states
   pub whole : wholes ≡ wholes_of at.image live.base.jobs
 
 abbrev pub wrapped : Job × State → Option (Job × State)

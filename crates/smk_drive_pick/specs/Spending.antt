@@ -13,7 +13,6 @@ use Rattle.smk_store.specs.declared.store.Kept.{Kept}
 use Rattle.smk_store.specs.Images.{readable}
 use Rattle.smk_store.specs.Stores.{entry_of}
 use Rattle.smk_trigger.specs.declared.reason.State.{State}
-use Rattle.smk_trigger.specs.JobStates.{is_clean, is_open, is_restore}
 use Rattle.smk_plan.specs.declared.seen.Sight.{Sight}
 use Rattle.smk_plan.specs.declared.wholes.Wholes.{Wholes}
 use Rattle.smk_plan.specs.Sights.{sight_at}
@@ -21,7 +20,10 @@ use Rattle.smk_plan.specs.States.{is_spent, staged, test_some}
 use Rattle.smk_plan_states.specs.declared.lines.Input.{Input}
 use Rattle.smk_plan_states.specs.declared.lines.Line.{Line}
 use Rattle.smk_plan_states.specs.declared.lines.Temp.{Temp}
+use Rattle.smk_plan_states.specs.declared.ranks.Rank.{Rank}
+use Rattle.smk_plan_states.specs.declared.ranks.Rank.TheVariants.{Open as AtOpen, Dirty as AtDirty, Restore as AtRestore, Clean as AtClean}
 use Rattle.smk_plan_states.specs.Judged.{Judging, any_held_back}
+use Rattle.smk_plan_states.specs.Ranks.{is_clean_rank}
 use Rattle.smk_plan_live.specs.Live.{LivePlan}
 use Rattle.smk_plan_live.specs.Lives.{AreWhole, IsLive}
 use Rattle.smk_plan_live.specs.Now.{known_now, seen_now}
@@ -91,9 +93,12 @@ has_any (p ∷ ps) = true
 abbrev pub has_temps : Job → Bool
 has_temps j = has_any j.temps
 
--- a state of a job that doesn't keep all others from being spent
-abbrev pub is_done_with : State → Bool
-is_done_with s = not (is_open s) && not (is_restore s)
+-- a rank of a job that doesn't keep all others from being spent
+abbrev pub is_done_with : Rank → Bool
+is_done_with AtOpen = false
+is_done_with AtDirty = true
+is_done_with AtRestore = false
+is_done_with AtClean = true
 
 -- ## What is needed
 
@@ -108,10 +113,10 @@ need_each flags [] = flags
 need_each flags (i ∷ inputs) = need_each (with_need flags i.link) inputs
 
 -- those of the job are, unless it is Clean
-abbrev pub need_of : List Bool → Line × State → List Bool
-need_of flags e = if is_clean e.1 then flags else need_each flags e.0.inputs
+abbrev pub need_of : List Bool → Line × Rank → List Bool
+need_of flags e = if is_clean_rank e.1 then flags else need_each flags e.0.inputs
 
-abbrev pub need_all : List Bool → List (Line × State) → List Bool
+abbrev pub need_all : List Bool → List (Line × Rank) → List Bool
 need_all flags [] = flags
 need_all flags (e ∷ es) = need_all (need_of flags e) es
 
@@ -129,13 +134,13 @@ module _ (live : LivePlan) (needed : List Bool) where
   ripe_paths es = flat_map ripe_of es
 
   -- the outputs of the job that are spent, where nothing else keeps them
-  abbrev pub ripe_by : Job × (Line × State) → List Path
-  ripe_by e = if is_clean e.1.1 && not e.1.0.feeds then ripe_paths (zip e.0.temps e.1.0.temps) else []
+  abbrev pub ripe_by : Job × (Line × Rank) → List Path
+  ripe_by e = if is_clean_rank e.1.1 && not e.1.0.feeds then ripe_paths (zip e.0.temps e.1.0.temps) else []
 
-  abbrev pub ripe_in : List (Job × (Line × State)) → List Path
+  abbrev pub ripe_in : List (Job × (Line × Rank)) → List Path
   ripe_in es = flat_map ripe_by es
 
 -- These are the outputs that are spent and may go, where nothing keeps all of them.
 abbrev pub AreRipeOf : LivePlan → List Path → Type 0
 AreRipeOf live found =
-    IsLive live → list_all is_done_with live.plan.states ≡ true → live.held ≡ false → (wholes : Wholes) → AreSpentIn live wholes found
+    IsLive live → list_all is_done_with live.ranking.last.items ≡ true → live.held ≡ false → (wholes : Wholes) → AreSpentIn live wholes found

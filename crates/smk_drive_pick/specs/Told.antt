@@ -3,13 +3,13 @@ use Rattle.std.specs.Prelude.{ℕ, suc, Bool, false, ◌&&◌, ◌||◌, not, Li
 use Rattle.std.specs.List.{list_any, slice_get}
 use Rattle.std.specs.Option.{option_and_then}
 use Rattle.smk_flow.specs.declared.job.Job.{Job}
-use Rattle.smk_trigger.specs.declared.reason.State.{State}
-use Rattle.smk_trigger.specs.JobStates.{is_clean}
 use Rattle.smk_plan.specs.States.{test_some}
 use Rattle.smk_plan_states.specs.declared.lines.Gathered.{Gathered}
 use Rattle.smk_plan_states.specs.declared.lines.Input.{Input}
 use Rattle.smk_plan_states.specs.declared.lines.Line.{Line}
 use Rattle.smk_plan_states.specs.declared.lines.Origin.{Origin}
+use Rattle.smk_plan_states.specs.declared.ranks.Rank.{Rank}
+use Rattle.smk_plan_states.specs.Ranks.{is_clean_rank}
 use Rattle.smk_drive_pick.specs.declared.next.Best.{Best}
 
 -- ## Paths
@@ -19,16 +19,16 @@ abbrev pub has_flag : List Bool → Option ℕ → Bool
 has_flag flags link = test_some (λ n. slice_index_or flags n false) link
 
 -- a job makes it that isn't Clean, or it isn't whole
-abbrev pub is_lacking : List State → Option ℕ → Bool → Bool
-is_lacking states job whole = test_some (λ (s : State). not (is_clean s && whole)) (option_and_then (slice_get states) job)
+abbrev pub is_lacking : List Rank → Option ℕ → Bool → Bool
+is_lacking ranks job whole = test_some (λ (r : Rank). not (is_clean_rank r && whole)) (option_and_then (slice_get ranks) job)
 
 -- so it is of the path of the maker of this number
-abbrev pub is_away : List State → List Origin → List Bool → ℕ → Bool
-is_away states origins wholes n = test_some (λ (o : Origin). is_lacking states o.job (slice_index_or wholes n false)) (slice_get origins n)
+abbrev pub is_away : List Rank → List Origin → List Bool → ℕ → Bool
+is_away ranks origins wholes n = test_some (λ (o : Origin). is_lacking ranks o.job (slice_index_or wholes n false)) (slice_get origins n)
 
 -- and of the path with this link
-abbrev pub is_missing : List State → List Origin → List Bool → Option ℕ → Bool
-is_missing states origins wholes link = test_some (is_away states origins wholes) link
+abbrev pub is_missing : List Rank → List Origin → List Bool → Option ℕ → Bool
+is_missing ranks origins wholes link = test_some (is_away ranks origins wholes) link
 
 -- an input, or a directory that is gathered from, passes the test
 abbrev pub lacks_some : (Option ℕ → Bool) → Line → Bool
@@ -43,10 +43,10 @@ better (Some best) None = Some best
 better (Some best) (Some later) = if nat_lt best.priority later.priority then Some later else Some best
 
 -- the job of the number, where it passes
-abbrev pub if_passes : (Job × State → Bool) → ℕ → Job × State → Option Best
+abbrev pub if_passes : {A : Type 0} → (Job × A → Bool) → ℕ → Job × A → Option Best
 if_passes test n e = if test e then Some (record { number = n; priority = e.0.priority }) else None
 
 -- the best of the jobs that pass, each by its number, from the number on
-abbrev pub best_from : (ℕ → Job × State → Bool) → ℕ → Option Best → List (Job × State) → Option Best
+abbrev pub best_from : {A : Type 0} → (ℕ → Job × A → Bool) → ℕ → Option Best → List (Job × A) → Option Best
 best_from test n best [] = best
 best_from test n best (e ∷ es) = best_from test (suc n) (better best (if_passes (test n) n e)) es

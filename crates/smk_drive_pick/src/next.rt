@@ -1,12 +1,13 @@
 //! The job that begins next.
 
-ghost use Rattle.std.specs.Prelude.{◌≡◌, ℕ, Bool, true, false, None, zip, option_map, IfOk};
+ghost use Rattle.std.specs.Prelude.{◌≡◌, ◌||◌, ℕ, Bool, true, false, not, None, zip, option_map, IfOk};
 ghost use Rattle.smk_pick.specs.Shares.{fits_in};
 ghost use Rattle.smk_drive.specs.Lawful.{ask_of};
 ghost use Rattle.std.specs.List.{slice_get};
 ghost use Rattle.smk_flow.specs.declared.job.Job.{Job as JobValue};
-ghost use Rattle.smk_trigger.specs.declared.reason.State.{State as StateValue};
+ghost use Rattle.smk_plan_states.specs.declared.ranks.Rank.{Rank as RankValue};
 ghost use Rattle.smk_plan.specs.States.{test_some};
+ghost use Rattle.smk_plan_states.specs.Ranks.{is_to_run_rank};
 ghost use Rattle.smk_plan_live.specs.Lives.{IsLive};
 ghost use Rattle.smk_plan_live.specs.Phases.{has_begun};
 ghost use Rattle.smk_drive_pick.specs.declared.next.Ground.{Ground as GroundValue};
@@ -15,14 +16,13 @@ ghost use Rattle.smk_drive_pick.specs.Told.{best_from, better, if_passes};
 ghost use Rattle.smk_drive_pick.specs.Grounds.{IsGroundOf, is_free_by, lacks_by, may_begin_by};
 
 use crate::asking::ask_of;
-use crate::hands::{Hands, is_to_run};
+use crate::hands::Hands;
 use crate::numbers::flag_at;
 use smk_base::{List, OutOfMemory};
 use smk_flow::Job;
 use smk_pick::{Ask, Room};
 use smk_plan_live::{LivePlan, Phase};
-use smk_plan_states::Line;
-use smk_trigger::State;
+use smk_plan_states::{Line, Rank, is_to_run};
 use std::alloc::Global;
 
 // What is told of jobs, by their numbers.
@@ -51,7 +51,7 @@ fn ground_of(alloc: Global, live: &LivePlan) -> Result<Ground<'_>, OutOfMemory>
     let hands = Hands {
         origins: table.origins(),
         wholes: live.makers_whole(),
-        states: live.as_plan().states.as_slice(),
+        ranks: live.ranks(),
     };
     Ok(Ground {
         lines: table.lines(),
@@ -93,14 +93,21 @@ impl Ground<'_> {
         }
     }
 
-    // Whether the job of the number, in this state, is to run, hasn't begun, has all that it needs at hand, and no child reads what it makes.
-    fn is_free(&self, number: usize, state: &State) -> bool
-        ensures { result ≡ is_free_by self.now number state.now }
+    // Whether the job of the number, of this rank, is to run, hasn't begun, has all that it needs at hand, and no child reads what it makes.
+    fn is_free(&self, number: usize, rank: Rank) -> bool
+        ensures { result ≡ is_free_by self.now number rank }
     {
-        is_to_run(state)
+        is_to_run(rank)
             && !self.has_begun(number)
             && !self.lacks_some(number)
             && !flag_at(self.used.as_slice(), number)
+    }
+
+    // Whether the job of the number, of this rank, isn't to run or has begun.
+    fn is_out(&self, number: usize, rank: Rank) -> bool
+        ensures { result ≡ (not (is_to_run_rank rank) || test_some has_begun (slice_get self.now.phases.now number)) }
+    {
+        !is_to_run(rank) || self.has_begun(number)
     }
 
     // The job of the number, where it may begin in the room.
@@ -110,11 +117,11 @@ impl Ground<'_> {
         room: &Room,
         number: usize,
         job: &Job,
-        state: &State,
+        rank: Rank,
     ) -> Result<Option<Best>, OutOfMemory>
-        ensures { IfOk result (λ found. found ≡ if_passes (may_begin_by self.now room.now number) number (job.now, state.now)) }
+        ensures { IfOk result (λ found. found ≡ if_passes (may_begin_by self.now room.now number) number (job.now, rank)) }
     {
-        if !self.is_free(number, state) {
+        if !self.is_free(number, rank) {
             return Ok(None);
         }
         let ask = ask_of(alloc, job)?;
@@ -130,22 +137,26 @@ impl Ground<'_> {
         }))
     }
 
-    // The best so far, or the job of the number in its place: what it needs and asks for is looked at only where its priority is greater, and some room is left for it.
+    // The best so far, or the job of the number in its place: what it needs and asks for is looked at only where it is to run and hasn't begun, its priority is greater,
+    // and some room is left for it.
     fn or_better(
         &self,
         alloc: Global,
         room: &Room,
         number: usize,
         job: &Job,
-        state: &State,
+        rank: Rank,
         best: Option<Best>,
     ) -> Result<Option<Best>, OutOfMemory>
-        ensures { IfOk result (λ found. found ≡ better best (if_passes (may_begin_by self.now room.now number) number (job.now, state.now))) }
+        ensures { IfOk result (λ found. found ≡ better best (if_passes (may_begin_by self.now room.now number) number (job.now, rank))) }
     {
+        if self.is_out(number, rank) {
+            return Ok(best);
+        }
         if is_passed_over(alloc, room, job, best) {
             return Ok(best);
         }
-        let later = self.if_free(alloc, room, number, job, state)?;
+        let later = self.if_free(alloc, room, number, job, rank)?;
         Ok(better(best, later))
     }
 }
@@ -169,8 +180,8 @@ fn better(best: Option<Best>, later: Option<Best>) -> Option<Best>
 
 // Whether the job is no better than the best so far, be it free or not.
 fn is_no_better(job: &Job, best: Option<Best>) -> bool
-    ensures { result ≡ true → (test : JobValue × StateValue → Bool) (number : ℕ) (state : StateValue)
-        → better best (if_passes test number (job.now, state)) ≡ best }
+    ensures { result ≡ true → (test : JobValue × RankValue → Bool) (number : ℕ) (rank : RankValue)
+        → better best (if_passes test number (job.now, rank)) ≡ best }
 {
     match best {
         None => false,
@@ -192,8 +203,8 @@ fn is_full(alloc: Global, room: &Room, job: &Job) -> bool
 
 // Whether the best so far stays, be the job free or not.
 fn is_passed_over(alloc: Global, room: &Room, job: &Job, best: Option<Best>) -> bool
-    ensures { result ≡ true → (told : GroundValue) (number : ℕ) (state : StateValue)
-        → better best (if_passes (may_begin_by told room.now number) number (job.now, state)) ≡ best }
+    ensures { result ≡ true → (told : GroundValue) (number : ℕ) (rank : RankValue)
+        → better best (if_passes (may_begin_by told room.now number) number (job.now, rank)) ≡ best }
 {
     if is_no_better(job, best) {
         return true;
@@ -218,15 +229,15 @@ fn best_of(
     room: &Room,
     jobs: &[Job],
 ) -> Result<Option<Best>, OutOfMemory>
-    ensures { IfOk result (λ found. found ≡ best_from (may_begin_by told.now room.now) 0 None (zip jobs.now told.now.hands.states.now)) }
+    ensures { IfOk result (λ found. found ≡ best_from (may_begin_by told.now room.now) 0 None (zip jobs.now told.now.hands.ranks.now)) }
 {
-    let states = told.hands.states;
+    let ranks = told.hands.ranks;
     let mut best = None;
     for (number, job) in jobs.iter().enumerate() {
-        let Some(state) = states.get(number) else {
+        let Some(rank) = ranks.get(number) else {
             return Ok(best);
         };
-        best = told.or_better(alloc, room, number, job, state, best)?;
+        best = told.or_better(alloc, room, number, job, *rank, best)?;
     }
     Ok(best)
 }

@@ -2,7 +2,7 @@
 
 ghost use Rattle.std.specs.Prelude.{◌≡◌, ◌++◌, List as Items, [], replicate, slice_set, zip, if◌then◌else◌, false, true, IfOk, OnOk};
 ghost use Rattle.std.specs.List.{list_all, list_any};
-ghost use Rattle.smk_trigger.specs.JobStates.{is_clean};
+ghost use Rattle.smk_plan_states.specs.Ranks.{is_clean_rank};
 ghost use Rattle.smk_plan_live.specs.Lives.{IsLive};
 ghost use Rattle.smk_drive_pick.specs.Spending.{AreRipeOf, AreSpentNow, has_temps, is_done_with, is_ripe, need_all, need_each, need_of, ripe_in, ripe_by, ripe_of, ripe_paths, with_need};
 
@@ -11,20 +11,14 @@ use crate::standing::may_go;
 use smk_base::{List, OutOfMemory, PathText};
 use smk_flow::Job;
 use smk_plan_live::LivePlan;
-use smk_plan_states::{Input, Line, Temp};
-use smk_trigger::State;
+use smk_plan_states::{Input, Line, Rank, Temp};
 use std::alloc::Global;
 
-// Whether the state is Clean.
-fn is_clean(state: &State) -> bool
-    ensures { result ≡ is_clean state.now }
+// Whether the rank is Clean.
+fn is_clean(rank: Rank) -> bool
+    ensures { result ≡ is_clean_rank rank }
 {
-    match state {
-        State::Open => false,
-        State::Dirty(_) => false,
-        State::Restore => false,
-        State::Clean => true,
-    }
+    matches!(rank, Rank::Clean)
 }
 
 // Whether an output of the job is temporary.
@@ -37,15 +31,15 @@ fn has_temps(job: &Job) -> bool
     }
 }
 
-// Whether a job of this state doesn't keep all outputs from being spent.
-fn is_done_with(state: &State) -> bool
-    ensures { result ≡ is_done_with state.now }
+// Whether a job of this rank doesn't keep all outputs from being spent.
+fn is_done_with(rank: Rank) -> bool
+    ensures { result ≡ is_done_with rank }
 {
-    match state {
-        State::Open => false,
-        State::Dirty(_) => true,
-        State::Restore => false,
-        State::Clean => true,
+    match rank {
+        Rank::Open => false,
+        Rank::Dirty => true,
+        Rank::Restore => false,
+        Rank::Clean => true,
     }
 }
 
@@ -62,11 +56,11 @@ fn any_temporary(jobs: &[Job]) -> bool
 }
 
 // Whether no job is Open or to be restored.
-fn are_done_with(states: &[State]) -> bool
-    ensures { result ≡ list_all is_done_with states.now }
+fn are_done_with(ranks: &[Rank]) -> bool
+    ensures { result ≡ list_all is_done_with ranks.now }
 {
-    for state in states {
-        if !is_done_with(state) {
+    for rank in ranks {
+        if !is_done_with(*rank) {
             return false;
         }
     }
@@ -95,24 +89,24 @@ fn need_each(needed: &mut Vec<bool>, inputs: &[Input])
 }
 
 // Notes that the inputs of the job are needed, unless it is Clean.
-fn need_of(needed: &mut Vec<bool>, line: &Line, state: &State)
-    ensures { needed.new.items ≡ need_of needed.old.items (line.now, state.now) }
+fn need_of(needed: &mut Vec<bool>, line: &Line, rank: Rank)
+    ensures { needed.new.items ≡ need_of needed.old.items (line.now, rank) }
 {
-    if is_clean(state) {
+    if is_clean(rank) {
         return;
     }
     need_each(needed, line.inputs.as_slice());
 }
 
 // Notes that the inputs of jobs that aren't Clean are needed.
-fn need_all(needed: &mut Vec<bool>, lines: &[Line], states: &[State])
-    ensures { needed.new.items ≡ need_all needed.old.items (zip lines.now states.now) }
+fn need_all(needed: &mut Vec<bool>, lines: &[Line], ranks: &[Rank])
+    ensures { needed.new.items ≡ need_all needed.old.items (zip lines.now ranks.now) }
 {
     for (i, line) in lines.iter().enumerate() {
-        let Some(state) = states.get(i) else {
+        let Some(rank) = ranks.get(i) else {
             return;
         };
-        need_of(needed, line, state);
+        need_of(needed, line, *rank);
     }
 }
 
@@ -121,12 +115,12 @@ fn needed_of(
     alloc: Global,
     makers: usize,
     lines: &[Line],
-    states: &[State],
+    ranks: &[Rank],
 ) -> Result<Vec<bool>, OutOfMemory>
-    ensures { IfOk result (λ needed. needed.items ≡ need_all (replicate makers false) (zip lines.now states.now)) }
+    ensures { IfOk result (λ needed. needed.items ≡ need_all (replicate makers false) (zip lines.now ranks.now)) }
 {
     let mut needed = vec![in alloc; false; makers]?;
-    need_all(&mut needed, lines, states);
+    need_all(&mut needed, lines, ranks);
     Ok(needed)
 }
 
@@ -194,12 +188,12 @@ fn push_job(
     needed: &[bool],
     job: &Job,
     line: &Line,
-    state: &State,
+    rank: Rank,
     found: &mut List<PathText>,
 ) -> Result<(), OutOfMemory>
-    ensures { OnOk result (found.new ≡ found.old ++ ripe_by live.now needed.now (job.now, (line.now, state.now))) }
+    ensures { OnOk result (found.new ≡ found.old ++ ripe_by live.now needed.now (job.now, (line.now, rank))) }
 {
-    if !is_clean(state) {
+    if !is_clean(rank) {
         return Ok(());
     }
     if line.feeds {
@@ -217,19 +211,19 @@ fn ripe_in(
     needed: &[bool],
     jobs: &[Job],
     lines: &[Line],
-    states: &[State],
+    ranks: &[Rank],
 ) -> Result<List<PathText>, OutOfMemory>
-    ensures { IfOk result (λ found. found ≡ ripe_in live.now needed.now (zip jobs.now (zip lines.now states.now))) }
+    ensures { IfOk result (λ found. found ≡ ripe_in live.now needed.now (zip jobs.now (zip lines.now ranks.now))) }
 {
     let mut found = List::new(alloc);
     for (i, job) in jobs.iter().enumerate() {
         let Some(line) = lines.get(i) else {
             return Ok(found);
         };
-        let Some(state) = states.get(i) else {
+        let Some(rank) = ranks.get(i) else {
             return Ok(found);
         };
-        push_job(alloc, live, needed, job, line, state, &mut found)?;
+        push_job(alloc, live, needed, job, line, *rank, &mut found)?;
     }
     Ok(found)
 }
@@ -241,9 +235,9 @@ fn ripe_now(alloc: Global, live: &LivePlan) -> Result<List<PathText>, OutOfMemor
     let table = live.table();
     let jobs = live.jobs().jobs.as_slice();
     let lines = table.lines();
-    let states = live.as_plan().states.as_slice();
-    let needed = needed_of(alloc, table.origins().len(), lines, states)?;
-    let found = ripe_in(alloc, live, needed.as_slice(), jobs, lines, states)?;
+    let ranks = live.ranks();
+    let needed = needed_of(alloc, table.origins().len(), lines, ranks)?;
+    let found = ripe_in(alloc, live, needed.as_slice(), jobs, lines, ranks)?;
     Ok(found)
 }
 
@@ -264,7 +258,7 @@ pub fn spent_paths(alloc: Global, live: &LivePlan) -> Result<List<PathText>, Out
     if live.holds_back() {
         return Ok(List::new(alloc));
     }
-    if !are_done_with(live.as_plan().states.as_slice()) {
+    if !are_done_with(live.ranks()) {
         return Ok(List::new(alloc));
     }
     let found = ripe_now(alloc, live)?;

@@ -1,6 +1,6 @@
 //! A whole run.
 
-ghost use Rattle.std.specs.Prelude.{◌≡◌, ◌&&◌, [], nat_eq, not};
+ghost use Rattle.std.specs.Prelude.{◌≡◌, ◌&&◌, [], nat_eq, not, IfOk};
 ghost use Rattle.smk_drive.specs.Moments.{Rules};
 ghost use Rattle.smk_drive_course.specs.Driven.{HasDriven};
 ghost use Rattle.smk_drive_first.specs.Opening.{AreRules};
@@ -28,11 +28,36 @@ use std::mem;
 use std::thread::Threads;
 
 // Whether no job has failed and not all is made. It can't be: then all jobs are Clean, and all targets current.
-fn is_unmade(live: &LivePlan, tally: &Tally) -> bool
-    ensures { result ≡ (nat_eq tally.now.failed 0 && not (spec.is_all_made live.now.plan.states live.now.plan.current)) }
+fn is_unmade(alloc: Global, live: &LivePlan, tally: &Tally) -> Result<bool, OutOfMemory>
+    ensures { IfOk result (λ unmade. unmade ≡ (nat_eq tally.now.failed 0 && not (spec.is_all_made live.now.plan.states live.now.plan.current))) }
 {
-    let is_made = is_all_made(&live.as_plan().states, &live.as_plan().current);
-    tally.failed == 0 && !is_made
+    let states = live.states(alloc)?;
+    let is_made = is_all_made(&states, live.current());
+    Ok(tally.failed == 0 && !is_made)
+}
+
+// Tells the end of a run of this plan in which no fault has come, where all is made, or a job has failed. The answer is which targets are current.
+fn report_made<O: Sink>(
+    alloc: Global,
+    settings: &Settings,
+    live: &LivePlan,
+    tally: &Tally,
+    unmade: bool,
+    out: &mut O,
+) -> Result<List<bool>, Fault>
+    requires { unmade ≡ (nat_eq tally.now.failed 0 && not (spec.is_all_made live.now.plan.states live.now.plan.current)) }
+    ensures { spec.HasTold settings.now.targets live.now tally.now (spec.ended_as tally.now result) (O.sunk out.old) (O.sunk out.new) }
+{
+    if unmade {
+        return Err(Fault::OutOfMemory);
+    }
+    match copy_flags(alloc, live.current().as_slice()) {
+        Ok(current) => match put_closing(alloc, &settings.targets, &current, tally, out) {
+            Ok(()) => Ok(current),
+            Err(fault) => Err(fault),
+        },
+        Err(OutOfMemory) => Err(Fault::OutOfMemory),
+    }
 }
 
 // Tells the end of a run of this plan in which no fault has come. The answer is which targets are current.
@@ -45,15 +70,9 @@ fn report<O: Sink>(
 ) -> Result<List<bool>, Fault>
     ensures { spec.HasTold settings.now.targets live.now tally.now (spec.ended_as tally.now result) (O.sunk out.old) (O.sunk out.new) }
 {
-    if is_unmade(live, tally) {
-        return Err(Fault::OutOfMemory);
-    }
-    match copy_flags(alloc, live.as_plan().current.as_slice()) {
-        Ok(current) => match put_closing(alloc, &settings.targets, &current, tally, out) {
-            Ok(()) => Ok(current),
-            Err(fault) => Err(fault),
-        },
-        Err(OutOfMemory) => Err(Fault::OutOfMemory),
+    match is_unmade(alloc, live, tally) {
+        Err(_) => Err(Fault::OutOfMemory),
+        Ok(unmade) => report_made(alloc, settings, live, tally, unmade, out),
     }
 }
 

@@ -23,6 +23,7 @@ judged_as_kept rules m live wholes alive settings progress agrees whole = (
     progress = progress;
     served = agrees.served;
     each = alive.each;
+    ranks = alive.ranked (seen rules m.world) agrees;
     whole = wholes_are facts_so wholes_so live.base live.settings (seen rules m.world) agrees wholes whole;
   },
   (alive.now (seen rules m.world) agrees).back

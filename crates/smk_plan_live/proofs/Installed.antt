@@ -22,15 +22,16 @@ use Rattle.smk_plan.specs.States.{by_force, job_path, makes, test_some}
 use Rattle.smk_plan_facts.specs.Facts.{told_sources}
 use Rattle.smk_plan_facts.specs.Telling.{facts_in, forced_by, is_made_of, outputs_in}
 use Rattle.smk_plan_states.specs.declared.standing.Last.{Last}
-use Rattle.smk_plan_states.specs.declared.standing.Ranking.{Ranking}
 use Rattle.smk_plan_states.specs.Rows.{lent}
 use Rattle.smk_plan_states.specs.Served.{AreServed}
-use Rattle.smk_plan_states.specs.Standing.{StandsBy}
+use Rattle.smk_plan_states.specs.Standing.{StandsBy, states_by}
 use Rattle.smk_plan_states.specs.Stays.{AreRowsBut, Told as TellsRows}
+use Rattle.smk_plan_states.proofs.Counts.{states_each}
+use Rattle.smk_plan_table.specs.declared.planning.Ranked.{Ranked}
 use Rattle.smk_plan_table.specs.Parts.{IsSuspectOf}
 use Rattle.smk_plan_live.specs.declared.base.Base.{Base}
 use Rattle.smk_plan_live.specs.declared.lending.Lent.{Lent}
-use Rattle.smk_plan_live.specs.Live.{LivePlan}
+use Rattle.smk_plan_live.specs.Live.{LivePlan, plan_kept}
 use Rattle.smk_plan_live.specs.declared.next.Change.{Change}
 use Rattle.smk_plan_live.specs.declared.renewing.Renewed.{Renewed}
 use Rattle.smk_plan_live.specs.declared.sites.Site.{Site}
@@ -41,8 +42,9 @@ use Rattle.smk_plan_live.specs.Now.{known_now, seen_now}
 use Rattle.smk_plan_live.specs.Phases.{begun_in, has_begun}
 use Rattle.smk_plan_live.specs.Same.{paths_in, AreSameBut, put_each, all_news, numbered_facts, numbered_force, numbered_reasons, users_from}
 use Rattle.smk_plan_live.specs.Carried.{has_name, turned, filled, advanced, sighted, sight_but, spent, spent_at}
-use Rattle.smk_plan_live.specs.Lives.{AreLentNow, AreMakersWhole, AreNamed, FollowsLent, IsLive, IsNow, facts_now, told_kept, told_lent, told_live}
-use Rattle.smk_plan_live.specs.Steps.{IsAhead, IsChanged, IsChangeOf, IsLast, IsLoss, StandsNext, moved, or_no_numbers, readers_at, told_next}
+use Rattle.smk_plan_live.specs.Kept.{told_kept, told_lent}
+use Rattle.smk_plan_live.specs.Lives.{AreLentNow, AreMakersWhole, AreNamed, AreRanked, FollowsLent, IsLive, IsNow, facts_now, told_live}
+use Rattle.smk_plan_live.specs.Steps.{IsAhead, IsChanged, IsChangeOf, IsLast, IsLoss, StandsNext, moved, or_no_numbers, plan_next, readers_at, told_next}
 use Rattle.smk_plan_live.proofs.Changed.{set_back, set_here, get_other, filled_but, sighted_but, turned_sound, filled_sound, sighted_sound, closed_begun, begun_here, begun_other, named_in}
 use Rattle.smk_plan_live.proofs.Restoring.{at_same, one_name}
 use Rattle.smk_plan_live.proofs.Same.{doubted_same, is_other}
@@ -180,17 +182,17 @@ loss_spent p gone site loss has x =
 -- the base is what it is as the job has come a step further
 pub ahead_advanced :
     (p : LivePlan) → IsLive p → (n : ℕ) (phase : Phase) (state : Option State) (row : List (Option Entry)) (sights : List (Option Sight)) (forced : Bool) →
-    IsChanged p.settings p.base (advanced n phase state row sights p.base) n forced →
-    IsAhead (record p { base = advanced n phase state row sights p.base }) n forced
-ahead_advanced p live n phase state row sights forced changed =
-    record { phases = p.base.phases; began = p.base.began; entries = p.base.entries; sights = p.base.sights; live = live; changed = changed }
+    IsChanged p.settings p.base (advanced n phase state row sights p.base) n forced → (plan : Told) →
+    IsAhead (record p { base = advanced n phase state row sights p.base; plan = plan }) n forced
+ahead_advanced p live n phase state row sights forced changed plan =
+    record { phases = p.base.phases; began = p.base.began; entries = p.base.entries; sights = p.base.sights; plan = p.plan; live = live; changed = changed }
 
 -- or once something else is seen at its outputs
 pub ahead_sighted :
     (p : LivePlan) → IsLive p → (n : ℕ) (sights : Option (List (Option Sight))) (forced : Bool) → IsChanged p.settings p.base (sighted n sights p.base) n forced →
-    IsAhead (record p { base = sighted n sights p.base }) n forced
-ahead_sighted p live n sights forced changed =
-    record { phases = p.base.phases; began = p.base.began; entries = p.base.entries; sights = p.base.sights; live = live; changed = changed }
+    (plan : Told) → IsAhead (record p { base = sighted n sights p.base; plan = plan }) n forced
+ahead_sighted p live n sights forced changed plan =
+    record { phases = p.base.phases; began = p.base.began; entries = p.base.entries; sights = p.base.sights; plan = p.plan; live = live; changed = changed }
 
 -- ## What is kept then
 
@@ -317,31 +319,30 @@ module _ (p : LivePlan) (n : ℕ) (forced : Bool) (ahead : IsAhead p n forced) (
       FollowsLent p.settings p.base p.table rows change.makers (Some l)
   follows_then l kept rows told_is served = (
     told_live p ahead.began,
-    record { states = p.plan.states; ranking = p.ranking },
-    sym kept.ranking,
-    sym kept.states,
-    ahead.live.standing served,
+    coe 1 0 (i. StandsBy p.table (told_live p ahead.began) (kept.ranking i)) (ahead.live.standing served),
     coe 1 0 (i. AreRowsBut p.table.origins (kept.job i) (kept.readers i) (told_live p ahead.began) (told_is i)) rows_but,
   )
 
   -- the plan with what is new
   pub installed :
-      (new : LivePlan) (plan : Told) (ranking : Ranking) (held : Bool) → length plan.states ≡ length jobs → length plan.current ≡ length p.settings.targets →
-      IsNow p.settings p.base plan held → (AreServed p.base.jobs p.settings.targets → StandsNext p change plan ranking) → new.base ≡ p.base → new.settings ≡ p.settings →
+      (new : LivePlan) (ranked : Ranked) (held : Bool) → length ranked.current ≡ length p.settings.targets →
+      IsNow p.settings p.base (plan_next p change ranked) held → (AreServed p.base.jobs p.settings.targets → StandsNext p change ranked.ranking) →
+      AreRanked p.settings p.base ranked.ranking (plan_next p change ranked) → new.base ≡ p.base → new.settings ≡ p.settings →
       new.facts.items ≡ put_each p.facts.items (map numbered_facts change.news.items) →
       new.reasons.items ≡ put_each p.reasons.items (map numbered_reasons change.news.items) →
-      new.plan ≡ plan → new.ranking ≡ ranking → new.held ≡ held →
+      new.plan ≡ plan_kept new.base new.facts.items new.reasons.items new.ranking ranked.current ranked.known new.table new.flags →
+      new.ranking ≡ ranked.ranking → new.held ≡ held →
       new.flags.outputs ≡ slice_set p.flags.outputs change.number change.outputs → new.flags.makers ≡ change.makers →
       new.flags.suspects ≡ change.suspects.items → new.table ≡ p.table → new.readers ≡ p.readers → new.commanded ≡ p.commanded → IsLive new
-  installed new plan ranking held each targets now stands base settings facts reasons told ranked back outputs makers suspects table readers commanded =
+  installed new ranked held targets now stands are base settings facts reasons made ranks back outputs makers suspects table readers commanded =
       coe 1 0
       (i.
       IsLive
       (record new {
         base = base i;
         settings = settings i;
-        plan = told i;
-        ranking = ranked i;
+        plan = planned i;
+        ranking = ranks i;
         held = back i;
         table = table i;
         readers = readers i;
@@ -351,7 +352,7 @@ module _ (p : LivePlan) (n : ℕ) (forced : Bool) (ahead : IsAhead p n forced) (
       (record {
         sound = ahead.changed.sound;
         texts = ahead.live.texts;
-        each = each;
+        each = states_each p.base.jobs p.settings.targets p.table (told_next p change) ranked.ranking ahead.live.table;
         targets = targets;
         facts = λ served. facts ∙ facts_then served;
         reasons = reasons ∙ reasons_then ∙ sym (ap (map reasons_of) facts);
@@ -360,7 +361,8 @@ module _ (p : LivePlan) (n : ℕ) (forced : Bool) (ahead : IsAhead p n forced) (
         flags = λ served. record { outputs = outputs_then served; makers = makers_then served; suspects = doubted_then served };
         readers = ahead.live.readers;
         standing = λ served.
-            subst (λ (rows : TellsRows). StandsBy p.table rows (record { states = plan.states; ranking = ranking })) told_is (stands served);
+            subst (λ (rows : TellsRows). StandsBy p.table rows ranked.ranking) told_is (stands served);
+        ranked = are;
         named = ahead.changed.named;
         commands = ahead.live.commands;
       })
@@ -382,6 +384,13 @@ module _ (p : LivePlan) (n : ℕ) (forced : Bool) (ahead : IsAhead p n forced) (
             forced = force i;
             running = p.base.began;
           }
+
+      told_new : told_kept new.flags new.reasons.items new.facts.items new.base.began ≡ told_next p change
+      told_new = λ i.
+          record { outputs = outputs i; makers = makers i; reasons = reasons i; forced = sym force i; running = (base i).began }
+
+      planned : new.plan ≡ plan_next p change ranked
+      planned = made ∙ (λ i. record { states = states_by (table i) (told_new i) (ranks i); current = ranked.current; known = ranked.known })
 
       its : new.flags.outputs ≡ slice_set p.flags.outputs n change.outputs
       its = outputs ∙ ap (λ m. slice_set p.flags.outputs m change.outputs) is.number

@@ -31,3 +31,26 @@ pub record LivePlan : Type 0 where
 abbrev pub plan_kept : Base → List JobFacts → List (List Reason) → Ranking → List Bool → Listings → Table → Flags → Plan
 plan_kept base facts reasons ranking current known table flags =
     record { states = states_by table (told_kept flags reasons facts base.began) ranking; current = current; known = known }
+
+-- what is kept, as contracts see it
+abbrev pub seen_as :
+    Base → Settings → Vec JobFacts Global → Vec (List Reason) Global → Ranking → List Bool → Listings → Bool → Table → Flags → Vec (List ℕ) Global → Bool → LivePlan
+seen_as base settings facts reasons ranking current known held table flags readers commanded =
+    record {
+      base = base;
+      settings = settings;
+      facts = facts;
+      reasons = reasons;
+      plan = plan_kept base facts.items reasons.items ranking current known table flags;
+      ranking = ranking;
+      held = held;
+      table = table;
+      flags = flags;
+      readers = readers;
+      commanded = commanded;
+    }
+
+-- the same, were this its base
+abbrev pub on_base : LivePlan → Base → LivePlan
+on_base p base =
+    record p { base = base; plan = plan_kept base p.facts.items p.reasons.items p.ranking p.plan.current p.plan.known p.table p.flags }

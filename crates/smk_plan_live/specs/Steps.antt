@@ -19,8 +19,10 @@ use Rattle.smk_plan_states.specs.Served.{AreServed}
 use Rattle.smk_plan_states.specs.Standing.{StandsBy}
 use Rattle.smk_plan_states.specs.Stays.{Told as TellsRows}
 use Rattle.smk_plan_states.specs.Tables.{IsTableOf}
+use Rattle.smk_plan_table.specs.declared.planning.Ranked.{Ranked}
 use Rattle.smk_plan_table.specs.declared.suspects.Suspect.{Suspect}
 use Rattle.smk_plan_table.specs.Parts.{IsSuspectOf}
+use Rattle.smk_plan_table.specs.Plans.{plan_by}
 use Rattle.smk_plan_live.specs.declared.base.Base.{Base}
 use Rattle.smk_plan_live.specs.declared.beginning.Start.{Start}
 use Rattle.smk_plan_live.specs.Live.{LivePlan}
@@ -35,7 +37,8 @@ use Rattle.smk_plan_live.specs.declared.phase.Phase.TheVariants.{Running}
 use Rattle.smk_plan_live.specs.Now.{known_now, seen_now}
 use Rattle.smk_plan_live.specs.Same.{AreSameBut, all_news, numbered_force, numbered_reasons, put_each, readers_of}
 use Rattle.smk_plan_live.specs.Carried.{begun_entries, gone_sights, has_name, sight_but}
-use Rattle.smk_plan_live.specs.Lives.{AreFlagsNow, AreNamed, IsLive, IsNow, IsSound, facts_now, told_kept}
+use Rattle.smk_plan_live.specs.Kept.{told_kept}
+use Rattle.smk_plan_live.specs.Lives.{AreFlagsNow, AreNamed, AreRanked, IsLive, IsNow, IsSound, facts_now}
 use Rattle.smk_plan_live.specs.Phases.{begun_in}
 
 -- ## All jobs
@@ -49,18 +52,21 @@ pub record IsKept (settings : Settings) (b : Base) (kept : Kept) : Type 0 where
   pub flags : AreFlagsNow settings b kept.flags
   pub readers : IsSound b → AreServed b.jobs settings.targets → kept.readers.items ≡ readers_of b.jobs.jobs
 
--- the states of the plan are those by what is kept, where these run, and so is what is kept of their ranks
-abbrev pub StandsKept : Kept → List (Option State) → Plan → Ranking → Type 0
-StandsKept kept began plan ranking =
-    StandsBy kept.table (told_kept kept.flags kept.reasons.items kept.facts.items began) (record { states = plan.states; ranking = ranking })
+-- the ranks are those by what is kept, where these run
+abbrev pub StandsKept : Kept → List (Option State) → Ranking → Type 0
+StandsKept kept began ranking = StandsBy kept.table (told_kept kept.flags kept.reasons.items kept.facts.items began) ranking
+
+-- the plan by them, where these run
+abbrev pub plan_with : Kept → List (Option State) → Ranked → Plan
+plan_with kept began ranked = plan_by kept.table (told_kept kept.flags kept.reasons.items kept.facts.items began) ranked
 
 -- The same, and the plan by it.
 pub record IsToldAnew (settings : Settings) (b : Base) (told : Told) : Type 0 where
   pub kept : IsKept settings b told.kept
-  pub each : length told.plan.states ≡ length b.jobs.jobs
-  pub targets : length told.plan.current ≡ length settings.targets
-  pub now : IsSound b → AreNamed b → IsNow settings b told.plan told.held
-  pub standing : AreServed b.jobs settings.targets → StandsKept told.kept b.began told.plan told.ranking
+  pub targets : length told.ranked.current ≡ length settings.targets
+  pub now : IsSound b → AreNamed b → IsNow settings b (plan_with told.kept b.began told.ranked) told.held
+  pub standing : AreServed b.jobs settings.targets → StandsKept told.kept b.began told.ranked.ranking
+  pub ranked : IsSound b → AreNamed b → AreRanked settings b told.ranked.ranking (plan_with told.kept b.began told.ranked)
 
 -- ## One job
 
@@ -80,13 +86,14 @@ pub record IsChanged (settings : Settings) (old new : Base) (n : ℕ) (forced : 
 abbrev pub moved : List Phase → List (Option State) → List (Option (List (Option Entry))) → List (Option (List (Option Sight))) → Base → Base
 moved phases began entries sights b = record b { phases = phases; began = began; entries = entries; sights = sights }
 
--- The base of the plan has changed so already, and all else of it is as it was before that.
+-- The base of the plan has changed so already, and all else that it keeps is as it was before that, when this was its plan.
 pub record IsAhead (p : LivePlan) (n : ℕ) (forced : Bool) : Type 0 where
   pub phases : List Phase
   pub began : List (Option State)
   pub entries : List (Option (List (Option Entry)))
   pub sights : List (Option (List (Option Sight)))
-  pub live : IsLive (record p { base = moved phases began entries sights p.base })
+  pub plan : Plan
+  pub live : IsLive (record p { base = moved phases began entries sights p.base; plan = plan })
   pub changed : IsChanged p.settings (moved phases began entries sights p.base) p.base n forced
 
 -- the facts that are new once what is known and seen has changed at the outputs of the job, whose number is n and which is forced or not; these are its readers
@@ -113,10 +120,9 @@ pub record IsChangeOf (p : LivePlan) (n : ℕ) (forced : Bool) (change : Change)
   pub doubted : IsSuspectOf (known_now p.base) (seen_now p.base) p.settings.bounds job suspect
   pub suspects : change.suspects.items ≡ slice_set p.flags.suspects n suspect
 
--- This is what the plan keeps of its states and ranks before a step of the job of the number n.
+-- This is what the plan keeps of its ranks before a step of the job of the number n.
 pub record IsLast (p : LivePlan) (n : ℕ) (last : Last) : Type 0 where
   pub ranking : last.ranking.now ≡ p.ranking
-  pub states : last.states.now ≡ p.plan.states
   pub job : last.job ≡ n
   pub readers : last.readers.now ≡ readers_at p.readers.items n
 
@@ -131,17 +137,21 @@ told_next p change =
       running = p.base.began;
     }
 
--- the states of a plan are those by it, and so is what is kept of their ranks
-abbrev pub StandsNext : LivePlan → Change → Plan → Ranking → Type 0
-StandsNext p change plan ranking = StandsBy p.table (told_next p change) (record { states = plan.states; ranking = ranking })
+-- the ranks are those by it
+abbrev pub StandsNext : LivePlan → Change → Ranking → Type 0
+StandsNext p change ranking = StandsBy p.table (told_next p change) ranking
+
+-- the plan by it
+abbrev pub plan_next : LivePlan → Change → Ranked → Plan
+plan_next p change ranked = plan_by p.table (told_next p change) ranked
 
 -- This is new where the base of the plan has changed at the outputs of the job of the number n, which is forced or not: what is told anew, and the plan by it.
 pub record IsNext (p : LivePlan) (n : ℕ) (forced : Bool) (next : Next) : Type 0 where
   pub change : IsChangeOf p n forced next.change
-  pub each : length next.plan.states ≡ length p.base.jobs.jobs
-  pub targets : length next.plan.current ≡ length p.settings.targets
-  pub now : IsAhead p n forced → IsNow p.settings p.base next.plan next.held
-  pub standing : IsAhead p n forced → AreServed p.base.jobs p.settings.targets → StandsNext p next.change next.plan next.ranking
+  pub targets : length next.ranked.current ≡ length p.settings.targets
+  pub now : IsAhead p n forced → IsNow p.settings p.base (plan_next p next.change next.ranked) next.held
+  pub standing : IsAhead p n forced → AreServed p.base.jobs p.settings.targets → StandsNext p next.change next.ranked.ranking
+  pub ranked : IsAhead p n forced → AreRanked p.settings p.base next.ranked.ranking (plan_next p next.change next.ranked)
 
 -- ## A job that is closed
 

@@ -18,7 +18,6 @@ use smk_chain::first_output;
 use smk_flow::Job;
 use smk_plan::{PlanFault, Sight};
 use smk_plan_facts::kept_again;
-use smk_plan_states::state_again;
 use smk_store::{Entry, Kept};
 use smk_trigger::{Plain, State};
 use smk_world::Stat;
@@ -119,27 +118,23 @@ fn has_name(job: &Job) -> bool
     first_output(job).is_some()
 }
 
-// How the job of the number begins, where these are the states.
-fn start_of(
-    alloc: Global,
-    base: &Base,
-    states: &[State],
-    number: usize,
-) -> Result<Start, OutOfMemory>
-    requires job { number < length base.now.jobs.jobs }
-    requires state { number < length states.now }
-    ensures { IfOk result (IsStart base.now states.now number) }
-{
-    let job = element(base.jobs.jobs.as_slice(), number);
-    if !has_name(job) {
-        return Err(OutOfMemory);
-    }
-    let state = state_again(element(states, number))?;
-    let rows = begun_rows(alloc, base, job)?;
-    Ok(Start { state, rows })
-}
-
 impl LivePlan {
+    // How the job of the number begins.
+    fn start_of(&self, alloc: Global, number: u32) -> Result<Start, OutOfMemory>
+        requires { number < length self.now.base.jobs.jobs }
+        ensures { IfOk result (IsStart self.now.base self.now.plan.states number) }
+    {
+        let job = element(self.base.jobs.jobs.as_slice(), number as usize);
+        if !has_name(job) {
+            return Err(OutOfMemory);
+        }
+        let Some(state) = self.state(alloc, number)? else {
+            return Err(OutOfMemory);
+        };
+        let rows = begun_rows(alloc, &self.base, job)?;
+        Ok(Start { state, rows })
+    }
+
     /// The job has begun: its child runs, with the state that the job has. From now on its outputs are marked, and nothing stands at them.
     ///
     /// Facts and reasons are told anew of it and of the jobs that read what it makes, and what is whole is told anew of it alone. States are told anew of these jobs, and of all
@@ -156,11 +151,11 @@ impl LivePlan {
         ensures err { OnErr result (self.new ≡ self.old) }
         ensures refused { IfErr result (λ fault. fault ≢ PlanFault.OutOfMemory → IsRefusedBegun job self.old fault) }
     {
-        let number = job as usize;
-        match start_of(alloc, &self.base, self.plan.states.as_slice(), number) {
+        match self.start_of(alloc, job) {
             Err(_) => Err(PlanFault::OutOfMemory),
             Ok(start) => {
                 let Start { state, rows } = start;
+                let number = job as usize;
                 self.advance(alloc, number, Phase::Running, Some(state), rows, &Plain)
             }
         }

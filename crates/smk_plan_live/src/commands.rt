@@ -6,7 +6,7 @@ ghost use Rattle.smk_plan_live.specs.Commands.{has_command};
 
 use smk_flow::Job;
 use smk_format::command;
-use smk_trigger::State;
+use smk_plan_states::{Rank, is_to_run};
 use std::alloc::Global;
 
 // Whether the job is seen to have a command: not where there is no memory to look.
@@ -31,10 +31,10 @@ fn have_commands(alloc: Global, cores: u64, jobs: &[Job]) -> bool
     true
 }
 
-// Whether a job of one of these states is to run.
-fn is_any_to_run(states: &[State]) -> bool {
-    for state in states {
-        if matches!(state, State::Dirty(_) | State::Restore) {
+// Whether a job of one of these ranks is to run.
+fn is_any_to_run(ranks: &[Rank]) -> bool {
+    for rank in ranks {
+        if is_to_run(*rank) {
             return true;
         }
     }
@@ -43,8 +43,8 @@ fn is_any_to_run(states: &[State]) -> bool {
 
 /// Whether the jobs are seen to have commands. They are looked at only where one of them is to run, since the command of none is asked for elsewhere; and it
 /// is `false` too where there is no memory to look.
-pub(crate) fn are_seen(alloc: Global, cores: u64, jobs: &[Job], states: &[State]) -> bool
+pub(crate) fn are_seen(alloc: Global, cores: u64, jobs: &[Job], ranks: &[Rank]) -> bool
     ensures { result ≡ true → list_all (has_command cores) jobs.now ≡ true }
 {
-    is_any_to_run(states) && have_commands(alloc, cores, jobs)
+    is_any_to_run(ranks) && have_commands(alloc, cores, jobs)
 }

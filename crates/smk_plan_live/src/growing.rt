@@ -77,8 +77,7 @@ impl LivePlan {
             Ok(told) => {
                 let Told {
                     kept,
-                    plan,
-                    ranking,
+                    ranked,
                     held,
                 } = told;
                 let Kept {
@@ -89,13 +88,14 @@ impl LivePlan {
                     readers,
                 } = kept;
                 let jobs = next.jobs.jobs.as_slice();
-                let states = plan.states.as_slice();
-                let commanded = are_seen(alloc, self.settings.cores, jobs, states);
+                let ranks = ranked.ranking.ranks();
+                let commanded = are_seen(alloc, self.settings.cores, jobs, ranks);
                 self.base = next;
                 self.facts = facts;
                 self.reasons = reasons;
-                self.plan = plan;
-                self.ranking = ranking;
+                self.ranking = ranked.ranking;
+                self.current = ranked.current;
+                self.known = ranked.known;
                 self.held = held;
                 self.table = table;
                 self.flags = flags;

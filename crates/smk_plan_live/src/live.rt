@@ -47,23 +47,15 @@ pub struct LivePlan {
 }
 
 impl Model for LivePlan {
-    ghost use Rattle.smk_plan_live.specs.Live.{LivePlan, plan_kept};
+    ghost use Rattle.std.specs.Coded.{codes};
+    ghost use Rattle.smk_plan_live.specs.contracts.base.Base as row;
+    ghost use Rattle.smk_plan_live.specs.Live.{LivePlan, seen_as};
 
     ghost Value = { LivePlan };
 
-    ghost view = { λ r. record {
-      base = r.base;
-      settings = r.settings;
-      facts = r.facts;
-      reasons = r.reasons;
-      plan = plan_kept r.base r.facts.items r.reasons.items r.ranking r.current r.known r.table r.flags;
-      ranking = r.ranking;
-      held = r.held;
-      table = r.table;
-      flags = r.flags;
-      readers = r.readers;
-      commanded = r.commanded;
-    } };
+    ghost coded = { Prim.hlevel (codes, row.the_row.coded) };
+
+    ghost view = { λ r. seen_as r.base r.settings r.facts r.reasons r.ranking r.current r.known r.held r.table r.flags r.readers r.commanded };
 }
 
 // The reasons of the number; none where there are none.

@@ -6,9 +6,9 @@ ghost use Rattle.smk_store.specs.Images.{Image};
 ghost use Rattle.smk_trigger.specs.Reasons.{reasons_of};
 ghost use Rattle.smk_plan_facts.specs.Telling.{has_path_texts};
 ghost use Rattle.smk_plan_table.specs.Plans.{Agree, IsRefused};
-ghost use Rattle.smk_plan_live.specs.Lives.{AreFlagsNow, AreNamed, IsLive, IsAgreed, IsNow, IsSound, IsRefusedNow, facts_now};
+ghost use Rattle.smk_plan_live.specs.Lives.{AreFlagsNow, AreNamed, AreRanked, IsLive, IsAgreed, IsNow, IsSound, IsRefusedNow, facts_now};
 ghost use Rattle.smk_plan_states.specs.Served.{AreServed};
-ghost use Rattle.smk_plan_live.specs.Steps.{IsKept, IsToldAnew, StandsKept};
+ghost use Rattle.smk_plan_live.specs.Steps.{IsKept, IsToldAnew, StandsKept, plan_with};
 ghost use Rattle.smk_plan_live.specs.Changes.{IsFirst};
 
 use crate::LivePlan;
@@ -24,10 +24,10 @@ use crate::telling::{Made, begun_of, tell};
 use smk_base::{List, OutOfMemory};
 use smk_chain::Jobs;
 use smk_pick::Settings;
-use smk_plan::{Plan, PlanFault, Seen};
+use smk_plan::{PlanFault, Seen};
 use smk_plan_facts::{all_outputs_told, facts_told, makers_told};
-use smk_plan_states::{Ranking, Table};
-use smk_plan_table::suspects_of;
+use smk_plan_states::Table;
+use smk_plan_table::{Ranked, suspects_of};
 use smk_store::Store;
 use smk_trigger::{JobFacts, Plain, Reason, all_reasons};
 use std::alloc::Global;
@@ -52,12 +52,11 @@ pub(crate) struct Kept {
     pub(crate) readers: Vec<List<usize>>,
 }
 
-/// The same with the plan by it, what is kept of ranks, and whether a job is held back.
+/// The same with the plan by it, by ranks, and whether a job is held back.
 #[derive(Drop)]
 pub(crate) struct Told {
     pub(crate) kept: Kept,
-    pub(crate) plan: Plan,
-    pub(crate) ranking: Ranking,
+    pub(crate) ranked: Ranked,
     pub(crate) held: bool,
 }
 
@@ -138,10 +137,12 @@ fn tell_kept(
     kept: &Kept,
 ) -> Result<Made, PlanFault>
     requires { IsKept settings.now base.now kept.now }
-    ensures each { IfOk result (λ made. length made.plan.states ≡ length base.now.jobs.jobs) }
-    ensures targets { IfOk result (λ made. length made.plan.current ≡ length settings.now.targets) }
-    ensures standing { IfOk result (λ made. AreServed base.now.jobs settings.now.targets → StandsKept kept.now base.now.began made.plan made.ranking) }
-    ensures now { IfOk result (λ made. IsSound base.now → AreNamed base.now → IsNow settings.now base.now made.plan made.held) }
+    ensures targets { IfOk result (λ made. length made.ranked.current ≡ length settings.now.targets) }
+    ensures standing { IfOk result (λ made. AreServed base.now.jobs settings.now.targets → StandsKept kept.now base.now.began made.ranked.ranking) }
+    ensures ranked { IfOk result (λ made. IsSound base.now → AreNamed base.now
+        → AreRanked settings.now base.now made.ranked.ranking (plan_with kept.now base.now.began made.ranked)) }
+    ensures now { IfOk result (λ made. IsSound base.now → AreNamed base.now
+        → IsNow settings.now base.now (plan_with kept.now base.now.began made.ranked) made.held) }
     ensures refused { IfErr result (λ fault. fault ≢ PlanFault.OutOfMemory → IsSound base.now → AreNamed base.now → IsRefusedNow settings.now base.now fault) }
 {
     let outputs = kept.flags.outputs.as_slice();
@@ -174,8 +175,7 @@ fn told_by(alloc: Global, base: &Base, settings: &Settings, kept: Kept) -> Resul
         Err(fault) => Err(fault),
         Ok(made) => Ok(Told {
             kept,
-            plan: made.plan,
-            ranking: made.ranking,
+            ranked: made.ranked,
             held: made.held,
         }),
     }
@@ -237,19 +237,19 @@ fn over<Rt: Threads + Sync>(
         Ok(told) => {
             let Told {
                 kept,
-                plan,
-                ranking,
+                ranked,
                 held,
             } = told;
             let jobs = base.jobs.jobs.as_slice();
-            let commanded = are_seen(alloc, settings.cores, jobs, plan.states.as_slice());
+            let commanded = are_seen(alloc, settings.cores, jobs, ranked.ranking.ranks());
             Ok(LivePlan {
                 base,
                 settings,
                 facts: kept.facts,
                 reasons: kept.reasons,
-                plan,
-                ranking,
+                ranking: ranked.ranking,
+                current: ranked.current,
+                known: ranked.known,
                 held,
                 table: kept.table,
                 flags: kept.flags,

@@ -3,10 +3,11 @@
 ghost use Rattle.std.specs.Prelude.{◌≡◌, ◌≢◌, ◌<◌, map, length, slice_set, Some, IfOk, IfErr, OnOk, OnErr};
 ghost use Rattle.std.specs.List.{slice_get};
 ghost use Rattle.smk_plan_states.specs.Tables.{IsTableOf};
-ghost use Rattle.smk_plan_live.specs.Lives.{IsLive, IsNow, IsRefusedNow};
+ghost use Rattle.smk_plan_live.specs.Live.{plan_kept};
+ghost use Rattle.smk_plan_live.specs.Lives.{AreRanked, IsLive, IsNow, IsRefusedNow};
 ghost use Rattle.smk_plan_live.specs.Same.{put_each, numbered_facts, numbered_reasons};
 ghost use Rattle.smk_plan_states.specs.Served.{AreServed};
-ghost use Rattle.smk_plan_live.specs.Steps.{IsAhead, IsChangeOf, IsLast, IsNext, StandsNext, readers_at};
+ghost use Rattle.smk_plan_live.specs.Steps.{IsAhead, IsChangeOf, IsLast, IsNext, StandsNext, plan_next, readers_at};
 
 use crate::LivePlan;
 use crate::lending::lend_with;
@@ -15,10 +16,10 @@ use crate::slots::{Slots, put_at};
 use crate::telling::{Made, tell};
 use smk_base::{List, OutOfMemory};
 use smk_flow::Job;
-use smk_plan::{Plan, PlanFault};
+use smk_plan::PlanFault;
 use smk_plan_facts::{makers_again, outputs_told};
-use smk_plan_states::{Last, Ranking};
-use smk_plan_table::{Suspect, suspect_of};
+use smk_plan_states::Last;
+use smk_plan_table::{Ranked, Suspect, suspect_of};
 use smk_trigger::{JobFacts, Judge, Reason};
 use std::alloc::Global;
 
@@ -37,12 +38,11 @@ pub(crate) struct Change {
     pub(crate) suspects: Vec<Suspect>,
 }
 
-/// The same, and the plan with it and with what is kept of ranks.
+/// The same, and the plan with it, by ranks.
 #[derive(Drop)]
 pub(crate) struct Next {
     pub(crate) change: Change,
-    pub(crate) plan: Plan,
-    pub(crate) ranking: Ranking,
+    pub(crate) ranked: Ranked,
     pub(crate) held: bool,
 }
 
@@ -146,7 +146,6 @@ impl LivePlan {
         let rows = self.readers.as_slice();
         Last {
             ranking: &self.ranking,
-            states: self.plan.states.as_slice(),
             job: number,
             readers: readers_at(rows, number),
         }
@@ -162,11 +161,13 @@ impl LivePlan {
     ) -> Result<Made, PlanFault>
         requires table { IsTableOf self.now.base.jobs self.now.settings.targets self.now.table }
         requires change { IsChangeOf self.now number forced change.now }
-        ensures each { IfOk result (λ made. length made.plan.states ≡ length self.now.base.jobs.jobs) }
-        ensures targets { IfOk result (λ made. length made.plan.current ≡ length self.now.settings.targets) }
-        ensures now { IfOk result (λ made. IsAhead self.now number forced → IsNow self.now.settings self.now.base made.plan made.held) }
+        ensures targets { IfOk result (λ made. length made.ranked.current ≡ length self.now.settings.targets) }
+        ensures now { IfOk result (λ made. IsAhead self.now number forced
+            → IsNow self.now.settings self.now.base (plan_next self.now change.now made.ranked) made.held) }
         ensures standing { IfOk result (λ made. IsAhead self.now number forced → AreServed self.now.base.jobs self.now.settings.targets
-            → StandsNext self.now change.now made.plan made.ranking) }
+            → StandsNext self.now change.now made.ranked.ranking) }
+        ensures ranked { IfOk result (λ made. IsAhead self.now number forced
+            → AreRanked self.now.settings self.now.base made.ranked.ranking (plan_next self.now change.now made.ranked)) }
         ensures refused { IfErr result (λ fault. fault ≢ PlanFault.OutOfMemory → IsAhead self.now number forced
             → IsRefusedNow self.now.settings self.now.base fault) }
     {
@@ -209,8 +210,7 @@ impl LivePlan {
             Err(fault) => Err(fault),
             Ok(made) => Ok(Next {
                 change,
-                plan: made.plan,
-                ranking: made.ranking,
+                ranked: made.ranked,
                 held: made.held,
             }),
         }
@@ -242,7 +242,9 @@ impl LivePlan {
         ensures base { (self.new.base ≡ self.old.base) × (self.new.settings ≡ self.old.settings) }
         ensures facts { self.new.facts.items ≡ put_each self.old.facts.items (map numbered_facts next.change.news.items) }
         ensures reasons { self.new.reasons.items ≡ put_each self.old.reasons.items (map numbered_reasons next.change.news.items) }
-        ensures plan { (self.new.plan ≡ next.plan) × (self.new.ranking ≡ next.ranking) × (self.new.held ≡ next.held) }
+        ensures plan { self.new.plan ≡ plan_kept self.new.base self.new.facts.items self.new.reasons.items self.new.ranking next.ranked.current next.ranked.known
+            self.new.table self.new.flags }
+        ensures ranks { (self.new.ranking ≡ next.ranked.ranking) × (self.new.held ≡ next.held) }
         ensures outputs { self.new.flags.outputs ≡ slice_set self.old.flags.outputs next.change.number next.change.outputs }
         ensures makers { self.new.flags.makers ≡ next.change.makers }
         ensures suspects { self.new.flags.suspects ≡ next.change.suspects.items }
@@ -251,10 +253,14 @@ impl LivePlan {
     {
         let Next {
             change,
-            plan,
-            ranking,
+            ranked,
             held,
         } = next;
+        let Ranked {
+            ranking,
+            current,
+            known,
+        } = ranked;
         let Change {
             number,
             news,
@@ -266,8 +272,9 @@ impl LivePlan {
         self.flags.outputs.put(number, outputs);
         self.flags.makers = makers;
         self.flags.suspects = Slots::of(suspects);
-        self.plan = plan;
         self.ranking = ranking;
+        self.current = current;
+        self.known = known;
         self.held = held;
     }
 

@@ -111,7 +111,6 @@ fn tell_by(
 ) -> Result<Made, PlanFault>
     requires table { IsTableOf base.now.jobs settings.now.targets table.now }
     requires begun { begun.now ≡ map has_begun base.now.phases }
-    ensures each { IfOk result (λ made. length made.ranked.ranking.last.items ≡ length base.now.jobs.jobs) }
     ensures targets { IfOk result (λ made. length made.ranked.current ≡ length settings.now.targets) }
     ensures standing { IfOk result (λ made. AreServed base.now.jobs settings.now.targets → FollowsLent settings.now base.now table.now lent.now makers.now last.entry
         → StandsBy table.now (told_lent lent.now makers.now base.now.began) made.ranked.ranking) }
@@ -159,7 +158,6 @@ pub(crate) fn tell(
     last: Option<Last<'_>>,
 ) -> Result<Made, PlanFault>
     requires { IsTableOf base.now.jobs settings.now.targets table.now }
-    ensures each { IfOk result (λ made. length made.ranked.ranking.last.items ≡ length base.now.jobs.jobs) }
     ensures targets { IfOk result (λ made. length made.ranked.current ≡ length settings.now.targets) }
     ensures standing { IfOk result (λ made. AreServed base.now.jobs settings.now.targets → FollowsLent settings.now base.now table.now lent.now makers.now last.entry
         → StandsBy table.now (told_lent lent.now makers.now base.now.began) made.ranked.ranking) }

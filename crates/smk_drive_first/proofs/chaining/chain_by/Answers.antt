@@ -3,7 +3,6 @@ use Rattle.std.proofs.lemmas.Bool.{both_ways}
 use Rattle.smk_world.proofs.Devices.{looked_nothing, looked_as, looked_then}
 use Rattle.smk_store.specs.Images.{seen}
 use Rattle.smk_laws_history.proofs.CurrentComplete.{seen_is_complete}
-use Rattle.smk_plan.specs.declared.plan.Plan.{Plan as Told}
 use Rattle.smk_plan_preview.proofs.LookedAt.{failed_on, kept, seen_moved, sink_as, memory_quiet, none_still}
 use Rattle.smk_drive_first.specs.Keeping.{HasKept}
 use Rattle.smk_drive_first.proofs.Kept.{handed_on, kept_last, memory_last, memory_no_sink, reaches_begun, reaches_next}
@@ -38,7 +37,7 @@ returns-then-is_empty-clause-told g c = λ w at none read reads.
     let image = seen_moved read w u.0 u.2 in
     kept_last read c.args.ground.now.flow.now c.args.ground.now.settings.now (seen read w) c.loop.lists c.make_round.result c.in_ok-found.found
     (seen_is_complete read w ((g.met.W.Files.sound _).formed w at)) c.in_ok-found.was c.in_ok-found.ensures.lists
-    (subst (λ (p : Told). p.known ≡ []) c.as_plan.ensures.value (c.is_empty.ensures.0 c.if-is_empty.true))
+    (sym c.known-known.ensures ∙ c.is_empty.ensures.0 c.if-is_empty.true)
     (subst (λ i. HasKept read c.args.ground.now.flow.now c.args.ground.now.settings.now i c.loop.lists c.make_round.result) image
     (c.make_round.ensures.told u.0 u.1 (none_still w u.0 u.2.nodes none) read reads))
     (c.loop.invariant.told w at none read reads)
@@ -52,8 +51,8 @@ loop-preserved g c =
           let image = seen_moved read w u.0 u.2 in
           reaches_next read c.args.ground.now.flow.now c.args.ground.now.settings.now (seen read w) c.loop.lists _ c.make_round.result c.in_ok-found.found
           (seen_is_complete read w ((g.met.W.Files.sound _).formed w at)) c.in_ok-found.was c.in_ok-found.ensures.lists
-          (c.in_ok-add_listings.ensures.ok ∙ ap (λ (p : Told). c.loop.lists ++ p.known) c.as_plan.ensures.value)
-          (λ none_known. both_ways c.is_empty.result c.if-is_empty.false (c.is_empty.ensures.1 (subst (λ (p : Told). p.known ≡ []) (sym c.as_plan.ensures.value) none_known)))
+          (c.in_ok-add_listings.ensures.ok ∙ ap (λ known. c.loop.lists ++ known) c.known-known.ensures)
+          (λ none_known. both_ways c.is_empty.result c.if-is_empty.false (c.is_empty.ensures.1 (c.known-known.ensures ∙ none_known)))
           (subst (λ i. HasKept read c.args.ground.now.flow.now c.args.ground.now.settings.now i c.loop.lists c.make_round.result) image
           (c.make_round.ensures.told u.0 u.1 (none_still w u.0 u.2.nodes none) read reads))
           (c.loop.invariant.told w at none read reads);

@@ -5,5 +5,5 @@ use Rattle.smk_drive_pick.proofs.next.best_of.Given as goal
 
 abbrev pub invariant-loop-number : goal.invariant-loop-number
 invariant-loop-number l =
-    best_from (may_begin_by l.told l.room) l.number l.best (zip (drop l.number l.jobs) (drop l.number l.states))
-    ≡ best_from (may_begin_by l.told l.room) 0 None (zip l.jobs l.states)
+    best_from (may_begin_by l.told l.room) l.number l.best (zip (drop l.number l.jobs) (drop l.number l.ranks))
+    ≡ best_from (may_begin_by l.told l.room) 0 None (zip l.jobs l.ranks)

@@ -1,5 +1,4 @@
 use Rattle.std.proofs.Common.{◌≡◌, ◌∙◌, sym, ap, subst}
-use Rattle.smk_plan.specs.declared.plan.Plan.{Plan as Told}
 use Rattle.smk_plan_states.specs.declared.table.Table.{Table}
 use Rattle.smk_plan_states.specs.Tables.{IsTableAt}
 use Rattle.smk_drive_pick.proofs.next.ground_of.Goals as goal
@@ -13,6 +12,6 @@ returns c =
       phases = c.phases.ensures;
       origins = c.origins.ensures ∙ ap (λ (t : Table). t.origins) table;
       wholes = c.makers_whole.ensures.value;
-      states = c.as_slice.ensures ∙ ap (λ (p : Told). p.states) c.as_plan.ensures.value;
+      ranks = c.ranks.ensures.value;
       used = λ at tabled began. c.in_ok-used.ensures at live.base.jobs (subst (IsTableAt at live.base.jobs) (sym table) tabled) (c.ran_from.ensures ∙ began);
     }

@@ -23,6 +23,6 @@ returns c =
           ap (option_map (slice_get (staged (plan_of live))))
           (c.number_of.ensures
           ∙ ap (option_map (λ (b : Best). b.number))
-          (c.in_ok-best.ensures ∙ (λ i. best_from (may_begin_by told room) 0 None (zip (jobs i) (c.in_ok-told.ensures.states i)))))
+          (c.in_ok-best.ensures ∙ (λ i. best_from (may_begin_by told room) 0 None (zip (jobs i) ((c.in_ok-told.ensures.ranks ∙ judged.ranks) i)))))
           ∙ next_is at live told c.requires judged c.in_ok-told.ensures cores bounds room asks holds;
     }

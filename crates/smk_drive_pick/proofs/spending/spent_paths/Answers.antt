@@ -1,8 +1,8 @@
 use Rattle.std.proofs.Common.{◌≡◌, ◌∙◌, refl, sym, ap}
 use Rattle.std.specs.List.{list_all, list_any}
-use Rattle.smk_plan.specs.declared.plan.Plan.{Plan as Told}
 use Rattle.smk_chain.specs.declared.jobs.Jobs.{Jobs}
 use Rattle.smk_drive_pick.specs.Spending.{has_temps, is_done_with}
+use Rattle.smk_drive_pick.proofs.ByRank.{done_by}
 use Rattle.smk_drive_pick.proofs.Freed.{whole_now}
 use Rattle.smk_drive_pick.proofs.Spent.{none_undone, none_temporary, none_while_held}
 use Rattle.smk_drive_pick.proofs.spending.spent_paths.Goals as goal
@@ -31,25 +31,24 @@ returns-then-holds_back c =
 
 pub returns-then-not-are_done_with : goal.returns-then-not-are_done_with
 returns-then-not-are_done_with c =
-    let states : c.as_slice-2.result.now ≡ c.args.live.now.plan.states = c.as_slice-2.ensures ∙ ap (λ (p : Told). p.states) c.as_plan.ensures.value in
     record {
       wholes = whole_now c.args.live.now;
       whole = λ sorted. refl;
       spent = λ at judged back.
           c.new-then-not-are_done_with.ensures
           ∙ sym (none_undone at c.args.live.now (whole_now c.args.live.now) judged
-          (sym (ap (list_all is_done_with) states) ∙ sym c.are_done_with.ensures ∙ c.if-not-are_done_with.true));
+          (sym (done_by c.args.live.now.plan.states) ∙ sym (ap (list_all is_done_with) (c.ranks.ensures.value ∙ judged.ranks))
+          ∙ sym c.are_done_with.ensures ∙ c.if-not-are_done_with.true));
     }
 
 pub returns : goal.returns
 returns c =
-    let states : c.as_slice-2.result.now ≡ c.args.live.now.plan.states = c.as_slice-2.ensures ∙ ap (λ (p : Told). p.states) c.as_plan.ensures.value in
     record {
       wholes = whole_now c.args.live.now;
       whole = λ sorted. refl;
       spent =
           c.in_ok-found.ensures c.requires
-          (sym (ap (list_all is_done_with) states) ∙ sym c.are_done_with.ensures ∙ c.if-not-are_done_with.false)
+          (sym (ap (list_all is_done_with) c.ranks.ensures.value) ∙ sym c.are_done_with.ensures ∙ c.if-not-are_done_with.false)
           (sym c.holds_back.ensures.value ∙ c.if-holds_back.false)
           (whole_now c.args.live.now);
     }

@@ -6,5 +6,5 @@ use Rattle.smk_drive_pick.proofs.hands.Hands.lacks_folder.Given as goal
 
 abbrev pub invariant-loop-gathered : goal.invariant-loop-gathered
 invariant-loop-gathered l =
-    list_any (λ (g : Gathered). is_missing l.self.states.now l.self.origins.now l.self.wholes.now g.link) l.gathers
-    ≡ list_any (λ (g : Gathered). is_missing l.self.states.now l.self.origins.now l.self.wholes.now g.link) (drop l.gathered-index l.gathers)
+    list_any (λ (g : Gathered). is_missing l.self.ranks.now l.self.origins.now l.self.wholes.now g.link) l.gathers
+    ≡ list_any (λ (g : Gathered). is_missing l.self.ranks.now l.self.origins.now l.self.wholes.now g.link) (drop l.gathered-index l.gathers)

@@ -6,5 +6,5 @@ use Rattle.smk_drive_pick.proofs.hands.Hands.lacks_input.Given as goal
 
 abbrev pub invariant-loop-input : goal.invariant-loop-input
 invariant-loop-input l =
-    list_any (λ (i : Input). is_missing l.self.states.now l.self.origins.now l.self.wholes.now i.link) l.inputs
-    ≡ list_any (λ (i : Input). is_missing l.self.states.now l.self.origins.now l.self.wholes.now i.link) (drop l.input-index l.inputs)
+    list_any (λ (i : Input). is_missing l.self.ranks.now l.self.origins.now l.self.wholes.now i.link) l.inputs
+    ≡ list_any (λ (i : Input). is_missing l.self.ranks.now l.self.origins.now l.self.wholes.now i.link) (drop l.input-index l.inputs)

@@ -31,7 +31,7 @@ returns-in-Ok-clause-refused c =
     let s = c.in-Ok.start in
     IfErr-weaker c.advance.result _ _
     (λ fault told. λ other state had j at.
-    let its : s.state ≡ state = same_Some s.state state (sym x.had ∙ ap (λ xs. slice_get xs n) c.as_slice.ensures ∙ had) in
+    let its : s.state ≡ state = same_Some s.state state (sym x.had ∙ had) in
     let it : x.job ≡ j = same_Some x.job j (sym x.is ∙ at) in
     let entries = x.entries ∙ ap (begun_entries p.base) it in
     let sights = x.sights ∙ ap gone_sights it in

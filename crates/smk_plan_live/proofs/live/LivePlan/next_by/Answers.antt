@@ -3,4 +3,4 @@ use Rattle.smk_plan_live.proofs.live.LivePlan.next_by.Goals as goal
 pub returns-in-Ok-clause-next : goal.returns-in-Ok-clause-next
 returns-in-Ok-clause-next c =
     let made = c.in-Ok.ensures in
-    record { change = c.requires.change; each = made.each; targets = made.targets; now = made.now; standing = made.standing }
+    record { change = c.requires.change; targets = made.targets; now = made.now; standing = made.standing; ranked = made.ranked }

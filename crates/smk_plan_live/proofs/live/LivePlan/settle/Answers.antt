@@ -8,8 +8,9 @@ pub returns-in-Ok-clause-live : goal.returns-in-Ok-clause-live
 returns-in-Ok-clause-live g c =
     let x = c.in-Ok.ensures.next in
     let e = c.install.ensures in
-    installed c.args.self.now c.args.number c.args.forced c.requires.ahead c.in-Ok.next.change x.change c.install.new.self c.in-Ok.next.plan c.in-Ok.next.ranking
-    c.in-Ok.next.held x.each x.targets (x.now c.requires.ahead) (x.standing c.requires.ahead) e.base.0 e.base.1 e.facts e.reasons e.plan.0 e.plan.1 e.plan.2 e.outputs e.makers e.suspects e.paths.0 e.paths.1 e.commands
+    installed c.args.self.now c.args.number c.args.forced c.requires.ahead c.in-Ok.next.change x.change c.install.new.self c.in-Ok.next.ranked
+    c.in-Ok.next.held x.targets (x.now c.requires.ahead) (x.standing c.requires.ahead) (x.ranked c.requires.ahead) e.base.0 e.base.1 e.facts e.reasons e.plan
+    e.ranks.0 e.ranks.1 e.outputs e.makers e.suspects e.paths.0 e.paths.1 e.commands
 
 pub returns-in-Err-clause-refused : goal.returns-in-Err-clause-refused
 returns-in-Err-clause-refused g c = λ other. c.in-Err.ensures.refused other c.requires.ahead

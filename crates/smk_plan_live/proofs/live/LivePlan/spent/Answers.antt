@@ -1,7 +1,9 @@
-use Rattle.std.proofs.Common.{◌<◌, Some, length, sym, subst}
+use Rattle.std.proofs.Common.{◌<◌, ◌∙◌, Some, ap, length, sym, subst}
+use Rattle.std.specs.BTreeMap.{get_by_text}
 use Rattle.std.proofs.lemmas.Option.{slice_get_within}
 use Rattle.std.proofs.lemmas.Result.{IfErr-weaker}
 use Rattle.smk_plan_live.specs.declared.base.Base.{Base}
+use Rattle.smk_plan_live.specs.Live.{LivePlan}
 use Rattle.smk_plan_live.specs.Lives.{IsRefusedNow}
 use Rattle.smk_plan_live.specs.Carried.{sighted}
 use Rattle.smk_plan_live.specs.Steps.{IsChanged}
@@ -26,4 +28,5 @@ returns-in-Ok-clause-refused c =
     IfErr-weaker c.see.result _ _
     (λ fault told. λ other.
     subst (λ (b : Base). IsRefusedNow p.settings b fault)
-    (loss_spent p c.args.path.now c.in-Some.site.now c.in-Ok.loss (sym c.in-Some.ensures) c.in-Ok.ensures) (told other)) c.see.ensures.refused
+    (loss_spent p c.args.path.now c.in-Some.site.now c.in-Ok.loss
+    (sym (ap (λ (q : LivePlan). get_by_text q.base.sites c.args.path.now) c.self.view_is) ∙ sym c.in-Some.ensures) c.in-Ok.ensures) (told other)) c.see.ensures.refused

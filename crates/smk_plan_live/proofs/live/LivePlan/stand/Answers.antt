@@ -1,30 +1,51 @@
 use Rattle.std.proofs.Common.{ap, sym, subst, ◌∙◌}
 use Rattle.std.specs.List.{list_all}
+use Rattle.smk_plan_states.proofs.Counts.{states_each}
 use Rattle.smk_plan_live.specs.Carried.{with_seen}
 use Rattle.smk_plan_live.specs.Commands.{has_command}
+use Rattle.smk_plan_live.specs.Kept.{told_kept}
+use Rattle.smk_plan_live.specs.Live.{LivePlan, on_base, seen_as}
 use Rattle.smk_plan_live.specs.Lives.{IsLive, IsRefusedNow}
 use Rattle.smk_plan_live.proofs.Grown.{seen_named, seen_sound}
 use Rattle.smk_plan_live.proofs.live.LivePlan.stand.Goals as goal
 
+pub returns-in-Err-clause-err : goal.returns-in-Err-clause-err
+returns-in-Err-clause-err g c =
+    let r = c.self.inside in
+    let p : LivePlan = seen_as r.base r.settings r.facts r.reasons r.ranking r.current r.known r.held r.table r.flags r.readers r.commanded in
+    ap (λ s. on_base p (with_seen s p.base)) (c.swap-in-Err.ensures.y_after ∙ c.swap.ensures.x_after) ∙ c.self.view_is
+
 pub returns-in-Err-clause-live : goal.returns-in-Err-clause-live
 returns-in-Err-clause-live g c =
-    let p = c.args.self.now in
-    coe 1 0 (i. IsLive (record p { base = with_seen ((c.swap-in-Err.ensures.y_after ∙ c.swap.ensures.x_after) i) p.base })) c.requires.live
+    let r = c.self.inside in
+    let p : LivePlan = seen_as r.base r.settings r.facts r.reasons r.ranking r.current r.known r.held r.table r.flags r.readers r.commanded in
+    coe 1 0 (i. IsLive (on_base p (with_seen ((c.swap-in-Err.ensures.y_after ∙ c.swap.ensures.x_after) i) p.base)))
+    (subst IsLive (sym c.self.view_is) c.requires.live)
 
 pub returns-in-Err-clause-refused : goal.returns-in-Err-clause-refused
 returns-in-Err-clause-refused g c = λ other.
-    subst (λ s. IsRefusedNow c.args.self.now.settings (with_seen s c.args.base) c.in-Err.fault) c.swap.ensures.x_after
-    (c.in-Err.ensures.refused other (seen_sound c.args.base c.swap.new.x c.requires.sound) (seen_named c.args.base c.swap.new.x c.requires.named))
+    subst (λ (p : LivePlan). IsRefusedNow p.settings (with_seen p.base.seen c.args.base) c.in-Err.fault) c.self.view_is
+    (subst (λ s. IsRefusedNow c.self.inside.settings (with_seen s c.args.base) c.in-Err.fault) c.swap.ensures.x_after
+    (c.in-Err.ensures.refused other (seen_sound c.args.base c.swap.new.x c.requires.sound) (seen_named c.args.base c.swap.new.x c.requires.named)))
+
+pub returns-in-Ok-clause-ok : goal.returns-in-Ok-clause-ok
+returns-in-Ok-clause-ok g c = (
+  ap (λ s. with_seen s c.args.base) (c.swap.ensures.x_after ∙ ap (λ (p : LivePlan). p.base.seen) c.self.view_is),
+  ap (λ (p : LivePlan). p.settings) c.self.view_is,
+)
 
 pub returns-in-Ok-clause-live : goal.returns-in-Ok-clause-live
 returns-in-Ok-clause-live g c =
     let t = c.in-Ok.ensures.told in
+    let k = c.in-Ok.told.kept in
+    let settings = c.self.inside.settings in
     let sound = seen_sound c.args.base c.swap.new.x c.requires.sound in
     let named = seen_named c.args.base c.swap.new.x c.requires.named in
     record {
       sound = sound;
       texts = t.kept.texts;
-      each = t.each;
+      each = states_each c.args.base.jobs settings.targets k.table (told_kept k.flags k.reasons.items k.facts.items c.args.base.began)
+          c.in-Ok.told.ranked.ranking t.kept.table;
       targets = t.targets;
       facts = λ served. t.kept.facts;
       reasons = t.kept.reasons;
@@ -33,6 +54,7 @@ returns-in-Ok-clause-live g c =
       flags = λ served. t.kept.flags;
       readers = t.kept.readers sound;
       standing = t.standing;
+      ranked = t.ranked sound named;
       named = named;
-      commands = λ h. ap (list_all (has_command c.args.self.now.settings.cores)) (sym c.as_slice-jobs.ensures) ∙ c.are_seen-commanded.ensures h;
+      commands = λ h. ap (list_all (has_command settings.cores)) (sym c.as_slice-jobs.ensures) ∙ c.are_seen-commanded.ensures h;
     }
