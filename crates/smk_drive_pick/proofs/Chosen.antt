@@ -28,6 +28,10 @@ use Rattle.smk_drive_pick.proofs.Rooms.{fits_beside}
 abbrev passes : Judging → LivePlan → ℕ → List Amount → List Ask → Job × State → Bool
 passes at live cores bounds asks e = is_free at (plan_of live) e && are_within cores bounds (ask_of e.0 ∷ asks)
 
+-- the job with the state may begin by what is told, by the rank of the state
+abbrev by_rank : Ground → Room → ℕ → Job × State → Bool
+by_rank told room n e = may_begin_by told room n (e.0, rank_of e.1)
+
 pub next_is :
     (at : Judging) (live : LivePlan) (told : Ground) → IsLive live → AreToldOf at live (whole_now live) → IsGroundOf live told →
     (cores : ℕ) (bounds : List Amount) (room : Room) (asks : List Ask) → Holds cores bounds room asks →
@@ -37,12 +41,9 @@ pub next_is :
 next_is at live told alive judged is cores bounds room asks holds =
     ap (λ o. option_map (slice_get (staged (plan_of live))) (option_map (λ (b : Best). b.number) o))
     (best_by (may_begin_by told room) 0 None live.base.jobs.jobs live.plan.states
-    ∙ best_same by_rank (passes at live cores bounds asks) 0 None (staged (plan_of live))
-    (λ n e there. subst (λ m. by_rank m e ≡ passes at live cores bounds asks e) (omega arith) (one n e there)))
+    ∙ best_same (by_rank told room) (passes at live cores bounds asks) 0 None (staged (plan_of live))
+    (λ n e there. subst (λ m. by_rank told room m e ≡ passes at live cores bounds asks e) (omega arith) (one n e there)))
     ∙ best_is (passes at live cores bounds asks) (staged (plan_of live))
   where
-    abbrev by_rank : ℕ → Job × State → Bool
-    by_rank n e = may_begin_by told room n (e.0, rank_of e.1)
-
-    one : (n : ℕ) (e : Job × State) → slice_get (staged (plan_of live)) n ≡ Some e → by_rank n e ≡ passes at live cores bounds asks e
+    one : (n : ℕ) (e : Job × State) → slice_get (staged (plan_of live)) n ≡ Some e → by_rank told room n e ≡ passes at live cores bounds asks e
     one n e there = λ k. free_is at live told alive judged is n e there k && fits_beside cores bounds room asks (ask_of e.0) holds k
