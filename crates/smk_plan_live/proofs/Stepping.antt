@@ -1,11 +1,10 @@
 -- What is told of jobs once one of them has come a step further: of others the same, but for the reasons of its readers.
-use Rattle.std.proofs.Common.{◌≡◌, ◌⊎◌, inl, inr, ℕ, zero, suc, ◌<◌, Bool, true, false, ◌||◌, ◌==◌, List, [], ◌∷◌, ◌++◌, map, length, Option, Some, None, refl, sym, ap, subst, ◌∙◌, arith}
+use Rattle.std.proofs.Common.{◌≡◌, ℕ, zero, suc, ◌<◌, Bool, true, false, ◌||◌, ◌==◌, List, [], ◌∷◌, ◌++◌, map, length, Option, Some, None, refl, sym, ap, ◌∙◌}
 use Rattle.std.specs.Prelude.{if◌then◌else◌, slice_index_or, slice_set}
-use Rattle.std.specs.List.{flat_map, list_any, slice_get}
+use Rattle.std.specs.List.{flat_map, slice_get}
 use Rattle.std.proofs.lemmas.Bool.{eqb-true, eqb-false, eq-eqb}
 use Rattle.std.proofs.lemmas.Option.{same_Some, none-some, slice_get_within}
 use Rattle.smk_base.proofs.Under.{never_both}
-use Rattle.smk_world.specs.declared.recipe.Out.{Out}
 use Rattle.smk_world.specs.Trees.{Path, Each, outs_of}
 use Rattle.smk_flow.specs.declared.job.Job.{Job}
 use Rattle.smk_store.specs.Stores.{Known}
@@ -19,7 +18,7 @@ use Rattle.smk_plan_states.specs.Lines.{origin_of}
 use Rattle.smk_plan_states.specs.Ranking.{is_link}
 use Rattle.smk_plan_states.specs.Stays.{has_number}
 use Rattle.smk_plan_live.specs.declared.renewing.Renewed.{Renewed}
-use Rattle.smk_plan_live.specs.Same.{all_news, numbered_force, numbered_reasons, put_each, reader_news, renewed, user_facts, user_news}
+use Rattle.smk_plan_live.specs.Same.{all_news, numbered_force, numbered_reasons, put_each, reader_news, renewed, user_news}
 use Rattle.smk_plan_live.proofs.Changed.{get_other}
 use Rattle.smk_plan_live.proofs.Putting.{each_joined, is_numbered, mapped_at, set_at}
 

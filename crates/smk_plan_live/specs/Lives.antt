@@ -7,7 +7,6 @@ use Rattle.smk_world.specs.Trees.{Path, Each, among}
 use Rattle.smk_flow.specs.declared.job.Job.{Job}
 use Rattle.smk_store.specs.Images.{Image}
 use Rattle.smk_trigger.specs.declared.facts.JobFacts.{JobFacts}
-use Rattle.smk_trigger.specs.declared.reason.Reason.{Reason}
 use Rattle.smk_trigger.specs.declared.reason.State.{State}
 use Rattle.smk_trigger.specs.Reasons.{reasons_of}
 use Rattle.smk_pick.specs.declared.settings.Settings.{Settings}

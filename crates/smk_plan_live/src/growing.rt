@@ -75,11 +75,7 @@ impl LivePlan {
                 Err(fault)
             }
             Ok(told) => {
-                let Told {
-                    kept,
-                    ranked,
-                    held,
-                } = told;
+                let Told { kept, ranked, held } = told;
                 let Kept {
                     facts,
                     reasons,

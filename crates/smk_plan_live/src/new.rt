@@ -235,11 +235,7 @@ fn over<Rt: Threads + Sync>(
     match told_of(rt, alloc, &base, &settings) {
         Err(fault) => Err(fault),
         Ok(told) => {
-            let Told {
-                kept,
-                ranked,
-                held,
-            } = told;
+            let Told { kept, ranked, held } = told;
             let jobs = base.jobs.jobs.as_slice();
             let commanded = are_seen(alloc, settings.cores, jobs, ranked.ranking.ranks());
             Ok(LivePlan {

@@ -1,4 +1,4 @@
-use Rattle.std.proofs.Common.{◌≡◌, ◌<◌, List, length, refl, ap, ap₂, ◌∙◌, subst, sym}
+use Rattle.std.proofs.Common.{◌<◌, List, length, refl, ap, ap₂, ◌∙◌, subst, sym}
 use Rattle.std.specs.Prelude.{slice_set}
 use Rattle.std.specs.List.{slice_get}
 use Rattle.smk_flow.specs.declared.job.Job.{Job}
