@@ -7,11 +7,13 @@ ghost use Rattle.smk_plan_states.specs.Tables.{IsTableOf};
 ghost use Rattle.smk_plan_live.specs.Phases.{has_begun, begun_in};
 ghost use Rattle.smk_plan_states.specs.Standing.{StandsBy};
 ghost use Rattle.smk_plan_table.specs.Plans.{plan_by};
-ghost use Rattle.smk_plan_live.specs.Kept.{told_lent};
-ghost use Rattle.smk_plan_live.specs.Lives.{AreLentNow, AreRanked, FollowsLent, IsNow, IsRefusedNow};
+ghost use Rattle.smk_plan_states.specs.Rows.{FitOwn};
+ghost use Rattle.smk_plan_live.specs.Kept.{forced_now, own_now, told_lent};
+ghost use Rattle.smk_plan_live.specs.Lives.{AreLentNow, AreRanked, FollowsLent, IsNow, IsRefusedNow, IsSound};
 
 use crate::Phase;
 use crate::base::Base;
+use crate::learning::learn;
 use crate::lending::Lent;
 use smk_base::{List, OutOfMemory, PathText};
 use smk_chain::first_output;
@@ -19,8 +21,9 @@ use smk_flow::Job;
 use smk_pick::Settings;
 use smk_plan::PlanFault;
 use smk_plan_facts::told_is_so;
-use smk_plan_states::{Last, Rows, Table};
+use smk_plan_states::{Lack, Last, Own, Rows, Table};
 use smk_plan_table::{Ranked, Suspect, plan_now};
+use smk_trigger::Judge;
 use std::alloc::Global;
 
 /// A plan by ranks, and whether some job is to be restored but counts as Clean.
@@ -97,6 +100,13 @@ fn begun_flags(alloc: Global, phases: &[Phase]) -> Result<Vec<bool>, OutOfMemory
     Ok(found)
 }
 
+/// Why nothing is told: a fault of the plan; or it isn't known whether the job of the number has reasons of its own, on which it hangs.
+#[derive(Drop)]
+enum Untold {
+    Fault(PlanFault),
+    Lacks(usize),
+}
+
 // The plan, and whether a job is held back, where these have begun.
 fn tell_by(
     alloc: Global,
@@ -105,84 +115,111 @@ fn tell_by(
     table: &Table,
     lent: &Lent<'_>,
     makers: &[bool],
+    own: &[Own],
     begun: &[bool],
     suspects: &[Suspect],
     last: Option<Last<'_>>,
-) -> Result<Made, PlanFault>
+) -> Result<Made, Untold>
     requires table { IsTableOf base.now.jobs settings.now.targets table.now }
     requires begun { begun.now ≡ map has_begun base.now.phases }
     ensures targets { IfOk result (λ made. length made.ranked.current ≡ length settings.now.targets) }
-    ensures standing { IfOk result (λ made. AreServed base.now.jobs settings.now.targets → FollowsLent settings.now base.now table.now lent.now makers.now last.entry
-        → StandsBy table.now (told_lent lent.now makers.now base.now.began) made.ranked.ranking) }
+    ensures standing { IfOk result (λ made. AreServed base.now.jobs settings.now.targets → FitOwn own.now (own_now settings.now base.now)
+        → FollowsLent settings.now base.now table.now lent.now makers.now last.entry
+        → StandsBy table.now (told_lent settings.now base.now lent.now makers.now) made.ranked.ranking) }
     ensures ranked { IfOk result (λ made. FollowsLent settings.now base.now table.now lent.now makers.now last.entry
-        → (AreServed base.now.jobs settings.now.targets → AreLentNow settings.now base.now lent.now makers.now suspects.now)
-        → AreRanked settings.now base.now made.ranked.ranking (plan_by table.now (told_lent lent.now makers.now base.now.began) made.ranked)) }
+        → (AreServed base.now.jobs settings.now.targets → AreLentNow settings.now base.now lent.now makers.now own.now suspects.now)
+        → AreRanked settings.now base.now made.ranked.ranking (plan_by table.now (told_lent settings.now base.now lent.now makers.now) made.ranked)) }
     ensures now { IfOk result (λ made. FollowsLent settings.now base.now table.now lent.now makers.now last.entry
-        → (AreServed base.now.jobs settings.now.targets → AreLentNow settings.now base.now lent.now makers.now suspects.now)
-        → IsNow settings.now base.now (plan_by table.now (told_lent lent.now makers.now base.now.began) made.ranked) made.held) }
-    ensures refused { IfErr result (λ fault. fault ≢ PlanFault.OutOfMemory → FollowsLent settings.now base.now table.now lent.now makers.now last.entry
-        → (AreServed base.now.jobs settings.now.targets → AreLentNow settings.now base.now lent.now makers.now suspects.now)
+        → (AreServed base.now.jobs settings.now.targets → AreLentNow settings.now base.now lent.now makers.now own.now suspects.now)
+        → IsNow settings.now base.now (plan_by table.now (told_lent settings.now base.now lent.now makers.now) made.ranked) made.held) }
+    ensures refused { IfErr result (λ untold. (fault : PlanFault) → untold ≡ Untold.Fault fault → fault ≢ PlanFault.OutOfMemory → FollowsLent settings.now base.now table.now lent.now makers.now last.entry
+        → (AreServed base.now.jobs settings.now.targets → AreLentNow settings.now base.now lent.now makers.now own.now suspects.now)
         → IsRefusedNow settings.now base.now fault) }
 {
     told_is_so();
     let rows = Rows {
         outputs: lent.outputs.as_slice(),
         makers,
-        reasons: lent.reasons.as_slice(),
-        forced: lent.forced.as_slice(),
+        own,
         running: base.began.as_slice(),
     };
-    match plan_now(
-        alloc, &base.jobs, table, base, settings, &rows, begun, suspects, last,
-    ) {
-        Err(fault) => Err(fault),
-        Ok(ranked) => match table.holds_back(alloc, &rows, &ranked.ranking) {
-            Err(_) => Err(PlanFault::OutOfMemory),
-            Ok(held) => Ok(Made { ranked, held }),
+    match table.rank(alloc, &rows, last) {
+        Err(Lack::Memory) => Err(Untold::Fault(PlanFault::OutOfMemory)),
+        Err(Lack::Own(number)) => Err(Untold::Lacks(number)),
+        Ok(ranking) => match plan_now(
+            alloc, &base.jobs, table, base, settings, &rows, begun, suspects, ranking,
+        ) {
+            Err(fault) => Err(Untold::Fault(fault)),
+            Ok(ranked) => match table.holds_back(alloc, &rows, &ranked.ranking) {
+                Err(_) => Err(Untold::Fault(PlanFault::OutOfMemory)),
+                Ok(held) => Ok(Made { ranked, held }),
+            },
         },
     }
 }
 
-/// The plan of the jobs by what is lent: the rows of this moment, which of the makers' paths are whole, and what may be refused of each job; and whether a job is
-/// held back. `last` is what was kept before a step of one job, or nothing: then states are told anew only where the step changes them, if no other job's rank does.
+/// The plan of the jobs by what is lent: the rows of this moment, which of the makers' paths are whole, which jobs have reasons of their own, so far as that is known, and what
+/// may be refused of each job; and whether a job is held back. The judge is asked once about each job on whose reasons it hangs and of which nothing is known, and what it says
+/// is noted. `last` is what was kept before a step of one job, or nothing: then ranks are told anew only where the step changes them, if no other job's rank does.
 ///
 /// The faults are those of a plan.
-pub(crate) fn tell(
+pub(crate) fn tell<J: Judge>(
     alloc: Global,
     base: &Base,
     settings: &Settings,
     table: &Table,
     lent: &Lent<'_>,
     makers: &[bool],
+    forced: &[bool],
+    own: &mut Vec<Own>,
     suspects: &[Suspect],
     last: Option<Last<'_>>,
+    judge: &J,
 ) -> Result<Made, PlanFault>
-    requires { IsTableOf base.now.jobs settings.now.targets table.now }
+    requires table { IsTableOf base.now.jobs settings.now.targets table.now }
+    requires sound { IsSound base.now }
+    requires forced { AreServed base.now.jobs settings.now.targets → forced.now ≡ forced_now settings.now base.now }
+    ensures fits { AreServed base.now.jobs settings.now.targets → FitOwn own.old.items (own_now settings.now base.now) → FitOwn own.new.items (own_now settings.now base.now) }
     ensures targets { IfOk result (λ made. length made.ranked.current ≡ length settings.now.targets) }
-    ensures standing { IfOk result (λ made. AreServed base.now.jobs settings.now.targets → FollowsLent settings.now base.now table.now lent.now makers.now last.entry
-        → StandsBy table.now (told_lent lent.now makers.now base.now.began) made.ranked.ranking) }
+    ensures standing { IfOk result (λ made. AreServed base.now.jobs settings.now.targets → FitOwn own.old.items (own_now settings.now base.now)
+        → FollowsLent settings.now base.now table.now lent.now makers.now last.entry
+        → StandsBy table.now (told_lent settings.now base.now lent.now makers.now) made.ranked.ranking) }
     ensures ranked { IfOk result (λ made. FollowsLent settings.now base.now table.now lent.now makers.now last.entry
-        → (AreServed base.now.jobs settings.now.targets → AreLentNow settings.now base.now lent.now makers.now suspects.now)
-        → AreRanked settings.now base.now made.ranked.ranking (plan_by table.now (told_lent lent.now makers.now base.now.began) made.ranked)) }
+        → (AreServed base.now.jobs settings.now.targets → AreLentNow settings.now base.now lent.now makers.now own.old.items suspects.now)
+        → AreRanked settings.now base.now made.ranked.ranking (plan_by table.now (told_lent settings.now base.now lent.now makers.now) made.ranked)) }
     ensures now { IfOk result (λ made. FollowsLent settings.now base.now table.now lent.now makers.now last.entry
-        → (AreServed base.now.jobs settings.now.targets → AreLentNow settings.now base.now lent.now makers.now suspects.now)
-        → IsNow settings.now base.now (plan_by table.now (told_lent lent.now makers.now base.now.began) made.ranked) made.held) }
+        → (AreServed base.now.jobs settings.now.targets → AreLentNow settings.now base.now lent.now makers.now own.old.items suspects.now)
+        → IsNow settings.now base.now (plan_by table.now (told_lent settings.now base.now lent.now makers.now) made.ranked) made.held) }
     ensures refused { IfErr result (λ fault. fault ≢ PlanFault.OutOfMemory → FollowsLent settings.now base.now table.now lent.now makers.now last.entry
-        → (AreServed base.now.jobs settings.now.targets → AreLentNow settings.now base.now lent.now makers.now suspects.now)
+        → (AreServed base.now.jobs settings.now.targets → AreLentNow settings.now base.now lent.now makers.now own.old.items suspects.now)
         → IsRefusedNow settings.now base.now fault) }
 {
-    match begun_flags(alloc, base.phases.as_slice()) {
-        Err(_) => Err(PlanFault::OutOfMemory),
-        Ok(begun) => tell_by(
+    let begun = match begun_flags(alloc, base.phases.as_slice()) {
+        Err(_) => return Err(PlanFault::OutOfMemory),
+        Ok(begun) => begun,
+    };
+    // Each turn but the last learns of one job more.
+    for _turn in 0..=own.len() {
+        match tell_by(
             alloc,
             base,
             settings,
             table,
             lent,
             makers,
+            own.as_slice(),
             begun.as_slice(),
             suspects,
             last,
-        ),
+        ) {
+            Ok(made) => return Ok(made),
+            Err(Untold::Fault(fault)) => return Err(fault),
+            Err(Untold::Lacks(number)) => {
+                if learn(alloc, base, forced, judge, own, number).is_err() {
+                    return Err(PlanFault::OutOfMemory);
+                }
+            }
+        }
     }
+    Err(PlanFault::OutOfMemory)
 }
