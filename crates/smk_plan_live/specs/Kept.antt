@@ -1,9 +1,10 @@
 -- What is told of jobs by what is kept of them.
-use Rattle.std.specs.Prelude.{Bool, List, Option, map}
+use Rattle.std.specs.Prelude.{Bool, List, [], ◌∷◌, map}
+use Rattle.std.specs.BTreeSet.{contains_text}
 use Rattle.smk_world.specs.Trees.{among}
+use Rattle.smk_flow.specs.declared.job.Job.{Job}
 use Rattle.smk_trigger.specs.declared.facts.JobFacts.{JobFacts}
 use Rattle.smk_trigger.specs.declared.reason.Reason.{Reason}
-use Rattle.smk_trigger.specs.declared.reason.State.{State}
 use Rattle.smk_trigger.specs.Reasons.{reasons_of}
 use Rattle.smk_pick.specs.declared.settings.Settings.{Settings}
 use Rattle.smk_plan_facts.specs.Facts.{told_sources}
@@ -27,11 +28,21 @@ own_now settings b = map reasons_of (facts_now settings b)
 abbrev pub forced_now : Settings → Base → List Bool
 forced_now settings b = map (λ (f : JobFacts). f.forced) (facts_now settings b)
 
--- what is told of the jobs, where these outputs and paths of makers are whole
-abbrev pub told_by_flags : Settings → Base → List (List Bool) → List Bool → Told
-told_by_flags settings b outputs makers =
-    record { outputs = outputs; makers = makers; reasons = own_now settings b; forced = forced_now settings b; running = b.began }
+-- what a job is judged by, where it is forced or not, by the paths that are kept as sources
+abbrev pub facts_by : Base → Bool → Job → JobFacts
+facts_by b forced j = facts_in (known_now b) (seen_now b) (contains_text b.sources) (λ x. forced) j
+
+-- the reasons of these jobs, where these are forced
+abbrev pub own_by : Base → List Job → List Bool → List (List Reason)
+own_by b [] forced = []
+own_by b (j ∷ jobs) [] = []
+own_by b (j ∷ jobs) (f ∷ forced) = reasons_of (facts_by b f j) ∷ own_by b jobs forced
+
+-- what is told of the jobs, where these outputs and paths of makers are whole, and these jobs are forced
+abbrev pub told_by_flags : Base → List (List Bool) → List Bool → List Bool → Told
+told_by_flags b outputs makers forced =
+    record { outputs = outputs; makers = makers; reasons = own_by b b.jobs.jobs forced; forced = forced; running = b.began }
 
 -- what is told of the jobs by what is lent of them
-abbrev pub told_lent : Settings → Base → Lent → List Bool → Told
-told_lent settings b rows makers = told_by_flags settings b (lent rows.outputs.items) makers
+abbrev pub told_lent : Base → Lent → List Bool → List Bool → Told
+told_lent b rows makers forced = told_by_flags b (lent rows.outputs.items) makers forced

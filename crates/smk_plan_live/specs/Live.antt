@@ -24,9 +24,9 @@ pub record LivePlan : Type 0 where
   pub commanded : Bool
 
 -- the plan by what is kept
-abbrev pub plan_kept : Base → Settings → Ranking → List Bool → Listings → Table → Flags → Plan
-plan_kept base settings ranking current known table flags =
-    record { states = states_by table (told_by_flags settings base flags.outputs flags.makers) ranking; current = current; known = known }
+abbrev pub plan_kept : Base → Ranking → List Bool → Listings → Table → Flags → Plan
+plan_kept base ranking current known table flags =
+    record { states = states_by table (told_by_flags base flags.outputs flags.makers flags.forced) ranking; current = current; known = known }
 
 -- what is kept, as contracts see it
 abbrev pub seen_as : Base → Settings → Ranking → List Bool → Listings → Bool → Table → Flags → Vec (List ℕ) Global → Bool → LivePlan
@@ -34,7 +34,7 @@ seen_as base settings ranking current known held table flags readers commanded =
     record {
       base = base;
       settings = settings;
-      plan = plan_kept base settings ranking current known table flags;
+      plan = plan_kept base ranking current known table flags;
       ranking = ranking;
       held = held;
       table = table;
@@ -45,4 +45,4 @@ seen_as base settings ranking current known held table flags readers commanded =
 
 -- the same, were this its base
 abbrev pub on_base : LivePlan → Base → LivePlan
-on_base p base = record p { base = base; plan = plan_kept base p.settings p.ranking p.plan.current p.plan.known p.table p.flags }
+on_base p base = record p { base = base; plan = plan_kept base p.ranking p.plan.current p.plan.known p.table p.flags }

@@ -122,12 +122,12 @@ pub record AreLentNow (settings : Settings) (b : Base) (rows : Lent) (makers : L
 -- ## What is kept of ranks
 
 -- what was kept of the last plan, if anything, stood then, and what is told now differs from that by a step of one job
-abbrev pub FollowsLent : Settings → Base → Table → Lent → List Bool → Option Last → Type 0
-FollowsLent settings b table rows makers last = AreServed b.jobs settings.targets → FollowsBy table last (told_lent settings b rows makers)
+abbrev pub FollowsLent : Settings → Base → Table → Lent → List Bool → List Bool → Option Last → Type 0
+FollowsLent settings b table rows makers forced last = AreServed b.jobs settings.targets → FollowsBy table last (told_lent b rows makers forced)
 
 -- what the plan tells of its jobs
 abbrev pub told_live : LivePlan → TellsRows
-told_live p = told_by_flags p.settings p.base p.flags.outputs p.flags.makers
+told_live p = told_by_flags p.base p.flags.outputs p.flags.makers p.flags.forced
 
 -- its ranks are those by what it tells
 abbrev pub Stands : LivePlan → Type 0

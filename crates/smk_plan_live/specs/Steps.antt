@@ -53,20 +53,20 @@ pub record IsKept (settings : Settings) (b : Base) (kept : Kept) : Type 0 where
   pub readers : IsSound b → AreServed b.jobs settings.targets → kept.readers.items ≡ readers_of b.jobs.jobs
 
 -- the ranks are those by what is kept
-abbrev pub StandsKept : Settings → Base → Kept → Ranking → Type 0
-StandsKept settings b kept ranking = StandsBy kept.table (told_by_flags settings b kept.flags.outputs kept.flags.makers) ranking
+abbrev pub StandsKept : Base → Kept → Ranking → Type 0
+StandsKept b kept ranking = StandsBy kept.table (told_by_flags b kept.flags.outputs kept.flags.makers kept.flags.forced) ranking
 
 -- the plan by them
-abbrev pub plan_with : Settings → Base → Kept → Ranked → Plan
-plan_with settings b kept ranked = plan_by kept.table (told_by_flags settings b kept.flags.outputs kept.flags.makers) ranked
+abbrev pub plan_with : Base → Kept → Ranked → Plan
+plan_with b kept ranked = plan_by kept.table (told_by_flags b kept.flags.outputs kept.flags.makers kept.flags.forced) ranked
 
 -- The same, and the plan by it.
 pub record IsToldAnew (settings : Settings) (b : Base) (told : Told) : Type 0 where
   pub kept : IsKept settings b told.kept
   pub targets : length told.ranked.current ≡ length settings.targets
-  pub now : IsSound b → AreNamed b → IsNow settings b (plan_with settings b told.kept told.ranked) told.held
-  pub standing : AreServed b.jobs settings.targets → StandsKept settings b told.kept told.ranked.ranking
-  pub ranked : IsSound b → AreNamed b → AreRanked settings b told.ranked.ranking (plan_with settings b told.kept told.ranked)
+  pub now : IsSound b → AreNamed b → IsNow settings b (plan_with b told.kept told.ranked) told.held
+  pub standing : AreServed b.jobs settings.targets → StandsKept b told.kept told.ranked.ranking
+  pub ranked : IsSound b → AreNamed b → AreRanked settings b told.ranked.ranking (plan_with b told.kept told.ranked)
 
 -- ## One job
 
@@ -128,7 +128,7 @@ pub record IsLast (p : LivePlan) (n : ℕ) (last : Last) : Type 0 where
 
 -- what is told of the jobs by what the plan keeps and what is told anew of it
 abbrev pub told_next : LivePlan → Change → TellsRows
-told_next p change = told_by_flags p.settings p.base (slice_set p.flags.outputs change.number change.outputs) change.makers
+told_next p change = told_by_flags p.base (slice_set p.flags.outputs change.number change.outputs) change.makers change.forced.items
 
 -- the ranks are those by it
 abbrev pub StandsNext : LivePlan → Change → Ranking → Type 0

@@ -10,15 +10,15 @@ ghost use Rattle.smk_plan_table.specs.Plans.{HasMadeAt};
 use crate::Phase;
 use crate::base::Base;
 use crate::flags::Flags;
-use crate::lending::lend;
 use crate::now::{entry_now, sight_now, site_of};
 use smk_base::{List, OutOfMemory, PathText};
 use smk_chain::{Jobs, Listings};
 use smk_pick::Settings;
 use smk_plan::Sight;
-use smk_plan_states::{Rank, Ranking, Rows, Table};
+use smk_plan_facts::own_facts;
+use smk_plan_states::{Rank, Ranking, Table};
 use smk_store::Entry;
-use smk_trigger::{JobFacts, Reason, State};
+use smk_trigger::{JobFacts, State, reasons};
 use std::alloc::Global;
 use std::marker::Model;
 
@@ -27,8 +27,6 @@ use std::marker::Model;
 pub struct LivePlan {
     pub(crate) base: Base,
     pub(crate) settings: Settings,
-    pub(crate) facts: Vec<JobFacts>,
-    pub(crate) reasons: Vec<List<Reason>>,
     /// The ranks of the jobs, of which their states come, with what is kept of them for the next step.
     pub(crate) ranking: Ranking,
     /// For each target whether it is current.
@@ -55,27 +53,7 @@ impl Model for LivePlan {
 
     ghost coded = { Prim.hlevel (codes, row.the_row.coded) };
 
-    ghost view = { λ r. seen_as r.base r.settings r.facts r.reasons r.ranking r.current r.known r.held r.table r.flags r.readers r.commanded };
-}
-
-// The reasons of the number; none where there are none.
-fn reasons_at(reasons: &[List<Reason>], number: usize) -> &[Reason]
-    ensures { result.now ≡ slice_index_or reasons.now number [] }
-{
-    match reasons.get(number) {
-        None => &[],
-        Some(own) => own.as_slice(),
-    }
-}
-
-// Whether the job of the number is forced, as its facts tell.
-fn is_forced_at(facts: &[JobFacts], number: usize) -> bool
-    ensures { result ≡ slice_index_or (map (λ f. f.forced) facts.now) number false }
-{
-    match facts.get(number) {
-        None => false,
-        Some(has) => has.forced,
-    }
+    ghost view = { λ r. seen_as r.base r.settings r.ranking r.current r.known r.held r.table r.flags r.readers r.commanded };
 }
 
 // The state that the job of the number had when it began, if its child runs.
@@ -119,36 +97,44 @@ impl LivePlan {
         &self.known
     }
 
+    /// What the job is judged by now. None where there is no job of this number. `OutOfMemory` where there is no memory for it.
+    pub fn facts(&self, alloc: Global, job: u32) -> Result<Option<JobFacts>, OutOfMemory>
+        ensures value { IfOk result (λ facts. facts ≡ facts_kept self.now.base self.now.flags.forced job) }
+        ensures now { IfOk result (λ facts. IsLive self.now → AreServed self.now.base.jobs self.now.settings.targets
+            → facts ≡ slice_get (facts_now self.now.settings self.now.base) job) }
+    {
+        let number = job as usize;
+        let base = &self.base;
+        let Some(job) = base.jobs.jobs.as_slice().get(number) else {
+            return Ok(None);
+        };
+        let Some(forced) = self.flags.forced.as_slice().get(number) else {
+            return Ok(None);
+        };
+        let facts = own_facts(alloc, base, &base.sources, *forced, job)?;
+        Ok(Some(facts))
+    }
+
     /// The state of the job now. None where there is no job of this number. `OutOfMemory` where there is no memory for it.
     pub fn state(&self, alloc: Global, job: u32) -> Result<Option<State>, OutOfMemory>
+        requires { IsLive self.now }
         ensures { IfOk result (λ state. state ≡ slice_get self.now.plan.states job) }
     {
         let number = job as usize;
-        let own = reasons_at(self.reasons.as_slice(), number);
-        let forced = is_forced_at(self.facts.as_slice(), number);
-        let begun = began_at(self.base.began.as_slice(), number);
-        let state = self
-            .table
-            .state_of(alloc, &self.ranking, number, own, forced, begun)?;
-        Ok(state)
-    }
-
-    /// The states of all jobs now. `OutOfMemory` where there is no memory for them.
-    pub fn states(&self, alloc: Global) -> Result<List<State>, OutOfMemory>
-        ensures { IfOk result (λ states. states ≡ self.now.plan.states) }
-    {
-        let outputs = self.flags.outputs.as_slice();
-        let reasons = self.reasons.as_slice();
-        let lent = lend(alloc, outputs, reasons, self.facts.as_slice())?;
-        let rows = Rows {
-            outputs: lent.outputs.as_slice(),
-            makers: self.flags.makers.as_slice(),
-            reasons: lent.reasons.as_slice(),
-            forced: lent.forced.as_slice(),
-            running: self.base.began.as_slice(),
+        let Some(facts) = self.facts(alloc, job)? else {
+            return Ok(None);
         };
-        let states = self.table.states(alloc, &rows, &self.ranking)?;
-        Ok(states)
+        let own = reasons(alloc, &facts)?;
+        let begun = began_at(self.base.began.as_slice(), number);
+        let state = self.table.state_of(
+            alloc,
+            &self.ranking,
+            number,
+            own.as_slice(),
+            facts.forced,
+            begun,
+        )?;
+        Ok(state)
     }
 
     /// The jobs. It takes no memory.
@@ -163,15 +149,6 @@ impl LivePlan {
         ensures { result.now ≡ self.now.base }
     {
         &self.base
-    }
-
-    /// What the job is judged by now. None where there is no job of this number. It takes no memory.
-    pub fn facts(&self, job: u32) -> Option<&JobFacts>
-        ensures value { option_map (λ f. f.now) result ≡ slice_get self.now.facts.items job }
-        ensures now { IsLive self.now → AreServed self.now.base.jobs self.now.settings.targets
-            → option_map (λ f. f.now) result ≡ slice_get (facts_now self.now.settings self.now.base) job }
-    {
-        self.facts.as_slice().get(job as usize)
     }
 
     /// How far each job has come, in plan order. It takes no memory.

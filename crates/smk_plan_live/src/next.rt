@@ -238,7 +238,7 @@ impl LivePlan {
     // Puts in what is new.
     fn install(&mut self, next: Next)
         ensures base { (self.new.base ≡ self.old.base) × (self.new.settings ≡ self.old.settings) }
-        ensures plan { self.new.plan ≡ plan_kept self.new.base self.new.settings self.new.ranking next.ranked.current next.ranked.known self.new.table self.new.flags }
+        ensures plan { self.new.plan ≡ plan_kept self.new.base self.new.ranking next.ranked.current next.ranked.known self.new.table self.new.flags }
         ensures ranks { (self.new.ranking ≡ next.ranked.ranking) × (self.new.held ≡ next.held) }
         ensures outputs { self.new.flags.outputs ≡ slice_set self.old.flags.outputs next.change.number next.change.outputs }
         ensures makers { self.new.flags.makers ≡ next.change.makers }

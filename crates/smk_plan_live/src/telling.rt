@@ -115,6 +115,7 @@ fn tell_by(
     table: &Table,
     lent: &Lent<'_>,
     makers: &[bool],
+    forced: &[bool],
     own: &[Own],
     begun: &[bool],
     suspects: &[Suspect],
@@ -124,15 +125,15 @@ fn tell_by(
     requires begun { begun.now ≡ map has_begun base.now.phases }
     ensures targets { IfOk result (λ made. length made.ranked.current ≡ length settings.now.targets) }
     ensures standing { IfOk result (λ made. AreServed base.now.jobs settings.now.targets → FitOwn own.now (own_now settings.now base.now)
-        → FollowsLent settings.now base.now table.now lent.now makers.now last.entry
-        → StandsBy table.now (told_lent settings.now base.now lent.now makers.now) made.ranked.ranking) }
-    ensures ranked { IfOk result (λ made. FollowsLent settings.now base.now table.now lent.now makers.now last.entry
+        → FollowsLent settings.now base.now table.now lent.now makers.now forced.now last.entry
+        → StandsBy table.now (told_lent base.now lent.now makers.now forced.now) made.ranked.ranking) }
+    ensures ranked { IfOk result (λ made. FollowsLent settings.now base.now table.now lent.now makers.now forced.now last.entry
         → (AreServed base.now.jobs settings.now.targets → AreLentNow settings.now base.now lent.now makers.now own.now suspects.now)
-        → AreRanked settings.now base.now made.ranked.ranking (plan_by table.now (told_lent settings.now base.now lent.now makers.now) made.ranked)) }
-    ensures now { IfOk result (λ made. FollowsLent settings.now base.now table.now lent.now makers.now last.entry
+        → AreRanked settings.now base.now made.ranked.ranking (plan_by table.now (told_lent base.now lent.now makers.now forced.now) made.ranked)) }
+    ensures now { IfOk result (λ made. FollowsLent settings.now base.now table.now lent.now makers.now forced.now last.entry
         → (AreServed base.now.jobs settings.now.targets → AreLentNow settings.now base.now lent.now makers.now own.now suspects.now)
-        → IsNow settings.now base.now (plan_by table.now (told_lent settings.now base.now lent.now makers.now) made.ranked) made.held) }
-    ensures refused { IfErr result (λ untold. (fault : PlanFault) → untold ≡ Untold.Fault fault → fault ≢ PlanFault.OutOfMemory → FollowsLent settings.now base.now table.now lent.now makers.now last.entry
+        → IsNow settings.now base.now (plan_by table.now (told_lent base.now lent.now makers.now forced.now) made.ranked) made.held) }
+    ensures refused { IfErr result (λ untold. (fault : PlanFault) → untold ≡ Untold.Fault fault → fault ≢ PlanFault.OutOfMemory → FollowsLent settings.now base.now table.now lent.now makers.now forced.now last.entry
         → (AreServed base.now.jobs settings.now.targets → AreLentNow settings.now base.now lent.now makers.now own.now suspects.now)
         → IsRefusedNow settings.now base.now fault) }
 {
@@ -182,15 +183,15 @@ pub(crate) fn tell<J: Judge>(
     ensures fits { AreServed base.now.jobs settings.now.targets → FitOwn own.old.items (own_now settings.now base.now) → FitOwn own.new.items (own_now settings.now base.now) }
     ensures targets { IfOk result (λ made. length made.ranked.current ≡ length settings.now.targets) }
     ensures standing { IfOk result (λ made. AreServed base.now.jobs settings.now.targets → FitOwn own.old.items (own_now settings.now base.now)
-        → FollowsLent settings.now base.now table.now lent.now makers.now last.entry
-        → StandsBy table.now (told_lent settings.now base.now lent.now makers.now) made.ranked.ranking) }
-    ensures ranked { IfOk result (λ made. FollowsLent settings.now base.now table.now lent.now makers.now last.entry
+        → FollowsLent settings.now base.now table.now lent.now makers.now forced.now last.entry
+        → StandsBy table.now (told_lent base.now lent.now makers.now forced.now) made.ranked.ranking) }
+    ensures ranked { IfOk result (λ made. FollowsLent settings.now base.now table.now lent.now makers.now forced.now last.entry
         → (AreServed base.now.jobs settings.now.targets → AreLentNow settings.now base.now lent.now makers.now own.old.items suspects.now)
-        → AreRanked settings.now base.now made.ranked.ranking (plan_by table.now (told_lent settings.now base.now lent.now makers.now) made.ranked)) }
-    ensures now { IfOk result (λ made. FollowsLent settings.now base.now table.now lent.now makers.now last.entry
+        → AreRanked settings.now base.now made.ranked.ranking (plan_by table.now (told_lent base.now lent.now makers.now forced.now) made.ranked)) }
+    ensures now { IfOk result (λ made. FollowsLent settings.now base.now table.now lent.now makers.now forced.now last.entry
         → (AreServed base.now.jobs settings.now.targets → AreLentNow settings.now base.now lent.now makers.now own.old.items suspects.now)
-        → IsNow settings.now base.now (plan_by table.now (told_lent settings.now base.now lent.now makers.now) made.ranked) made.held) }
-    ensures refused { IfErr result (λ fault. fault ≢ PlanFault.OutOfMemory → FollowsLent settings.now base.now table.now lent.now makers.now last.entry
+        → IsNow settings.now base.now (plan_by table.now (told_lent base.now lent.now makers.now forced.now) made.ranked) made.held) }
+    ensures refused { IfErr result (λ fault. fault ≢ PlanFault.OutOfMemory → FollowsLent settings.now base.now table.now lent.now makers.now forced.now last.entry
         → (AreServed base.now.jobs settings.now.targets → AreLentNow settings.now base.now lent.now makers.now own.old.items suspects.now)
         → IsRefusedNow settings.now base.now fault) }
 {
@@ -207,6 +208,7 @@ pub(crate) fn tell<J: Judge>(
             table,
             lent,
             makers,
+            forced,
             own.as_slice(),
             begun.as_slice(),
             suspects,
@@ -222,4 +224,49 @@ pub(crate) fn tell<J: Judge>(
         }
     }
     Err(PlanFault::OutOfMemory)
+}
+
+/// The same where it is known of each job whether it has reasons of its own, and nothing was kept before. The faults are those of a plan; `OutOfMemory` too where it isn't known.
+pub(crate) fn tell_known(
+    alloc: Global,
+    base: &Base,
+    settings: &Settings,
+    table: &Table,
+    lent: &Lent<'_>,
+    makers: &[bool],
+    forced: &[bool],
+    own: &[Own],
+    suspects: &[Suspect],
+) -> Result<Made, PlanFault>
+    requires table { IsTableOf base.now.jobs settings.now.targets table.now }
+    ensures targets { IfOk result (λ made. length made.ranked.current ≡ length settings.now.targets) }
+    ensures standing { IfOk result (λ made. AreServed base.now.jobs settings.now.targets → FitOwn own.now (own_now settings.now base.now)
+        → StandsBy table.now (told_lent base.now lent.now makers.now forced.now) made.ranked.ranking) }
+    ensures ranked { IfOk result (λ made. (AreServed base.now.jobs settings.now.targets → AreLentNow settings.now base.now lent.now makers.now own.now suspects.now)
+        → AreRanked settings.now base.now made.ranked.ranking (plan_by table.now (told_lent base.now lent.now makers.now forced.now) made.ranked)) }
+    ensures now { IfOk result (λ made. (AreServed base.now.jobs settings.now.targets → AreLentNow settings.now base.now lent.now makers.now own.now suspects.now)
+        → IsNow settings.now base.now (plan_by table.now (told_lent base.now lent.now makers.now forced.now) made.ranked) made.held) }
+    ensures refused { IfErr result (λ fault. fault ≢ PlanFault.OutOfMemory → (AreServed base.now.jobs settings.now.targets → AreLentNow settings.now base.now lent.now makers.now own.now suspects.now)
+        → IsRefusedNow settings.now base.now fault) }
+{
+    match begun_flags(alloc, base.phases.as_slice()) {
+        Err(_) => Err(PlanFault::OutOfMemory),
+        Ok(begun) => match tell_by(
+            alloc,
+            base,
+            settings,
+            table,
+            lent,
+            makers,
+            forced,
+            own,
+            begun.as_slice(),
+            suspects,
+            None,
+        ) {
+            Ok(made) => Ok(made),
+            Err(Untold::Fault(fault)) => Err(fault),
+            Err(Untold::Lacks(_)) => Err(PlanFault::OutOfMemory),
+        },
+    }
 }
