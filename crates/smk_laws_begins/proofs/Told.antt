@@ -20,7 +20,8 @@ use Rattle.smk_laws_plan.proofs.CurrentLists.{get_in}
 use Rattle.smk_laws_protocol.proofs.Basics.{each_in, each_of}
 use Rattle.smk_plan_live.specs.declared.base.Base.{Base}
 use Rattle.smk_plan_live.specs.Agreeing.{AreTold}
-use Rattle.smk_plan_live.specs.Lives.{IsAgreed, facts_now}
+use Rattle.smk_plan_live.specs.Kept.{facts_now}
+use Rattle.smk_plan_live.specs.Lives.{IsAgreed}
 use Rattle.smk_plan_live.specs.Lives.{progress_of as kept_progress}
 use Rattle.smk_plan_live.specs.Now.{known_now, seen_now}
 use Rattle.smk_plan_live.specs.Phases.{begun_in}

@@ -33,17 +33,16 @@ use Rattle.smk_plan_live.specs.declared.base.Base.{Base}
 use Rattle.smk_plan_live.specs.declared.lending.Lent.{Lent}
 use Rattle.smk_plan_live.specs.Live.{LivePlan, plan_kept}
 use Rattle.smk_plan_live.specs.declared.next.Change.{Change}
-use Rattle.smk_plan_live.specs.declared.renewing.Renewed.{Renewed}
 use Rattle.smk_plan_live.specs.declared.sites.Site.{Site}
 use Rattle.smk_plan_live.specs.declared.spending.Loss.{Loss}
 use Rattle.smk_plan_live.specs.declared.phase.Phase.{Phase}
 use Rattle.smk_plan_live.specs.declared.phase.Phase.TheVariants.{Waiting, Running, Closed}
 use Rattle.smk_plan_live.specs.Now.{known_now, seen_now}
 use Rattle.smk_plan_live.specs.Phases.{begun_in, has_begun}
-use Rattle.smk_plan_live.specs.Same.{paths_in, AreSameBut, put_each, all_news, numbered_facts, numbered_force, numbered_reasons, users_from}
+use Rattle.smk_plan_live.specs.Same.{Renewed, paths_in, AreSameBut, put_each, all_news, numbered_facts, numbered_force, numbered_reasons, users_from}
 use Rattle.smk_plan_live.specs.Carried.{has_name, turned, filled, advanced, sighted, sight_but, spent, spent_at}
-use Rattle.smk_plan_live.specs.Kept.{told_kept, told_lent}
-use Rattle.smk_plan_live.specs.Lives.{AreLentNow, AreMakersWhole, AreNamed, AreRanked, FollowsLent, IsLive, IsNow, facts_now, told_live}
+use Rattle.smk_plan_live.specs.Kept.{facts_now, told_lent}
+use Rattle.smk_plan_live.specs.Lives.{AreLentNow, AreMakersWhole, AreNamed, AreRanked, FollowsLent, IsLive, IsNow, told_live}
 use Rattle.smk_plan_live.specs.Steps.{IsAhead, IsChanged, IsChangeOf, IsLast, IsLoss, StandsNext, moved, or_no_numbers, plan_next, readers_at, told_next}
 use Rattle.smk_plan_live.proofs.Changed.{set_back, set_here, get_other, filled_but, sighted_but, turned_sound, filled_sound, sighted_sound, closed_begun, begun_here, begun_other, named_in}
 use Rattle.smk_plan_live.proofs.Restoring.{at_same, one_name}

@@ -24,9 +24,8 @@ use Rattle.smk_plan_facts.specs.Telling.{directories_of, facts_in, flags_but, is
 use Rattle.smk_plan_facts.proofs.WholesTold.{nth_map}
 use Rattle.smk_plan_table.specs.declared.suspects.Suspect.{Suspect}
 use Rattle.smk_plan_live.specs.declared.base.Base.{Base}
-use Rattle.smk_plan_live.specs.declared.renewing.Renewed.{Renewed}
 use Rattle.smk_plan_live.specs.Now.{known_now, seen_now}
-use Rattle.smk_plan_live.specs.Same.{paths_in, is_user, AreSameBut, put_each, user_facts, renewed, user_news, reader_news, all_news, numbered_facts, numbered_reasons, users_from}
+use Rattle.smk_plan_live.specs.Same.{Renewed, paths_in, is_user, AreSameBut, put_each, user_facts, renewed, user_news, reader_news, all_news, numbered_facts, numbered_reasons, users_from}
 use Rattle.smk_plan_live.specs.Lives.{AreMakersWhole}
 use Rattle.smk_plan_live.proofs.Putting.{each_joined, is_numbered, mapped_at, put_are, put_one}
 use Rattle.smk_plan_live.proofs.Restoring.{at_same}

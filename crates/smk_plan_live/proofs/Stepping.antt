@@ -17,8 +17,7 @@ use Rattle.smk_plan_states.specs.declared.lines.Origin.{Origin}
 use Rattle.smk_plan_states.specs.Lines.{origin_of}
 use Rattle.smk_plan_states.specs.Ranking.{is_link}
 use Rattle.smk_plan_states.specs.Stays.{has_number}
-use Rattle.smk_plan_live.specs.declared.renewing.Renewed.{Renewed}
-use Rattle.smk_plan_live.specs.Same.{all_news, numbered_force, numbered_reasons, put_each, reader_news, renewed, user_news}
+use Rattle.smk_plan_live.specs.Same.{Renewed, all_news, numbered_force, numbered_reasons, put_each, reader_news, renewed, user_news}
 use Rattle.smk_plan_live.proofs.Changed.{get_other}
 use Rattle.smk_plan_live.proofs.Putting.{each_joined, is_numbered, mapped_at, set_at}
 

@@ -1,5 +1,6 @@
 -- What is told of jobs by what is kept of them.
-use Rattle.std.specs.Prelude.{Bool, List, [], ◌∷◌, map}
+use Rattle.std.specs.Prelude.{ℕ, Bool, List, [], ◌∷◌, map, Option, Some, None}
+use Rattle.std.specs.List.{slice_get}
 use Rattle.std.specs.BTreeSet.{contains_text}
 use Rattle.smk_world.specs.Trees.{among}
 use Rattle.smk_flow.specs.declared.job.Job.{Job}
@@ -31,6 +32,15 @@ forced_now settings b = map (λ (f : JobFacts). f.forced) (facts_now settings b)
 -- what a job is judged by, where it is forced or not, by the paths that are kept as sources
 abbrev pub facts_by : Base → Bool → Job → JobFacts
 facts_by b forced j = facts_in (known_now b) (seen_now b) (contains_text b.sources) (λ x. forced) j
+
+-- the same of the job of the number, where these are forced
+abbrev pub facts_if : Base → Option Job → Option Bool → Option JobFacts
+facts_if b None forced = None
+facts_if b (Some j) None = None
+facts_if b (Some j) (Some f) = Some (facts_by b f j)
+
+abbrev pub facts_kept : Base → List Bool → ℕ → Option JobFacts
+facts_kept b forced n = facts_if b (slice_get b.jobs.jobs n) (slice_get forced n)
 
 -- the reasons of these jobs, where these are forced
 abbrev pub own_by : Base → List Job → List Bool → List (List Reason)

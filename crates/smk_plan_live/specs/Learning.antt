@@ -1,19 +1,17 @@
 -- Whether jobs have reasons of their own, as that is learned and forgotten.
 use Rattle.std.specs.Prelude.{ℕ, Bool, false, List, [], ◌∷◌, slice_index_or, slice_set, Option, Some, None}
 use Rattle.std.specs.List.{slice_get}
-use Rattle.std.specs.BTreeSet.{contains_text}
 use Rattle.smk_flow.specs.declared.job.Job.{Job}
 use Rattle.smk_trigger.specs.Reasons.{reasons_of}
-use Rattle.smk_plan_facts.specs.Telling.{facts_in}
 use Rattle.smk_plan_states.specs.declared.rows.Own.{Own}
 use Rattle.smk_plan_states.specs.declared.rows.Own.TheVariants.{Unknown}
 use Rattle.smk_plan_states.specs.Rows.{own_of}
 use Rattle.smk_plan_live.specs.declared.base.Base.{Base}
-use Rattle.smk_plan_live.specs.Now.{known_now, seen_now}
+use Rattle.smk_plan_live.specs.Kept.{facts_by}
 
 -- whether the job has reasons of its own by what is known and seen now, where it is forced or not
 abbrev pub own_flag : Base → Bool → Job → Own
-own_flag b forced j = own_of (reasons_of (facts_in (known_now b) (seen_now b) (contains_text b.sources) (λ x. forced) j))
+own_flag b forced j = own_of (reasons_of (facts_by b forced j))
 
 -- the flags once that is learned of the job of the number, if there is one
 abbrev pub noted : Base → Bool → List Own → ℕ → Option Job → List Own

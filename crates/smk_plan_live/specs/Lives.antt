@@ -110,13 +110,13 @@ pub record AreNamed (b : Base) : Type 0 where
 
 -- What is lent of the jobs is so by what is known and was seen now: which outputs, and which of the makers' paths, are whole, and which have reasons of their own, where that is
 -- told; and nothing is refused of them that isn't suspected.
-pub record AreLentNow (settings : Settings) (b : Base) (rows : Lent) (makers : List Bool) (own : List Own) (suspects : List Suspect) : Type 0 where
+pub record AreLentNow (settings : Settings) (b : Base) (rows : Lent) (makers : List Bool) (flags : List Own) (suspects : List Suspect) : Type 0 where
   pub sound : IsSound b
   pub named : AreNamed b
   pub texts : list_all has_path_texts b.jobs.jobs ≡ true
   pub outputs : lent rows.outputs.items ≡ map (outputs_in (known_now b) (seen_now b)) b.jobs.jobs
   pub whole : AreMakersWhole b makers
-  pub own : FitOwn own (own_now settings b)
+  pub own : FitOwn flags (own_now settings b)
   pub doubted : AllZip (IsSuspectOf (known_now b) (seen_now b) settings.bounds) b.jobs.jobs suspects
 
 -- ## What is kept of ranks

@@ -14,7 +14,6 @@ use Rattle.smk_trigger.specs.Reasons.{reasons_of}
 use Rattle.smk_plan.specs.declared.seen.Sight.{Sight}
 use Rattle.smk_plan.specs.Sights.{sight_at}
 use Rattle.smk_plan_facts.specs.Telling.{copied, stamp_in, facts_in}
-use Rattle.smk_plan_live.specs.declared.renewing.Renewed.{Renewed}
 
 -- ## Outputs
 
@@ -65,6 +64,12 @@ user_facts known seen told outs f =
     }
 
 -- ## What is new
+
+-- what is new of the job of the number
+pub record Renewed : Type 0 where
+  pub number : ℕ
+  pub facts : JobFacts
+  pub reasons : List Reason
 
 -- what is new of the job of the number, where these are its facts now
 abbrev pub renewed : ℕ → JobFacts → Renewed

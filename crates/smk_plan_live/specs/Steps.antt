@@ -32,12 +32,11 @@ use Rattle.smk_plan_live.specs.declared.new.Kept.{Kept}
 use Rattle.smk_plan_live.specs.declared.new.Told.{Told}
 use Rattle.smk_plan_live.specs.declared.next.Change.{Change}
 use Rattle.smk_plan_live.specs.declared.next.Next.{Next}
-use Rattle.smk_plan_live.specs.declared.renewing.Renewed.{Renewed}
 use Rattle.smk_plan_live.specs.declared.spending.Loss.{Loss}
 use Rattle.smk_plan_live.specs.declared.phase.Phase.{Phase}
 use Rattle.smk_plan_live.specs.declared.phase.Phase.TheVariants.{Running}
 use Rattle.smk_plan_live.specs.Now.{known_now, seen_now}
-use Rattle.smk_plan_live.specs.Same.{AreSameBut, all_news, numbered_force, numbered_reasons, put_each, readers_of}
+use Rattle.smk_plan_live.specs.Same.{Renewed, AreSameBut, all_news, numbered_force, numbered_reasons, put_each, readers_of}
 use Rattle.smk_plan_live.specs.Carried.{begun_entries, gone_sights, has_name, sight_but}
 use Rattle.smk_plan_live.specs.Kept.{facts_now, forced_now, own_now, told_by_flags}
 use Rattle.smk_plan_live.specs.Lives.{AreFlagsNow, AreNamed, AreRanked, IsLive, IsNow, IsSound}

@@ -1,17 +1,21 @@
 //! Whether a job has reasons of its own is learned.
 
 ghost use Rattle.std.specs.Prelude.{◌≡◌, slice_index_or, slice_set, false, IfOk, OnErr, OnOk};
+ghost use Rattle.smk_trigger.specs.Reasons.{reasons_of};
+ghost use Rattle.smk_plan_live.specs.Kept.{facts_by, own_by};
 ghost use Rattle.smk_plan_live.specs.Learning.{forgotten, learned};
 
 use crate::base::Base;
 use crate::slots::put_at;
-use smk_base::OutOfMemory;
+use smk_base::{List, OutOfMemory};
+use smk_flow::Job;
 use smk_plan_facts::own_facts;
 use smk_plan_states::{Own, own_of};
-use smk_trigger::Judge;
+use smk_trigger::{Judge, Reason, reasons};
 use std::alloc::Global;
 
 // Whether the job of the number is forced.
+#[tactic(auto, using(crate::proofs::Judging::told_here))]
 fn is_forced(forced: &[bool], number: usize) -> bool
     ensures { result ≡ slice_index_or forced.now number false }
 {
@@ -64,5 +68,38 @@ pub(crate) fn forget(
     let mut found = Vec::from_slice(alloc, own)?;
     put_at(&mut found, number, Own::Unknown);
     forget_each(&mut found, readers);
+    Ok(found)
+}
+
+// The reasons of the job, where it is forced or not, but for the inputs whose job is Dirty.
+fn own_reasons(
+    alloc: Global,
+    base: &Base,
+    forced: bool,
+    job: &Job,
+) -> Result<List<Reason>, OutOfMemory>
+    ensures { IfOk result (λ own. own ≡ reasons_of (facts_by base.now forced job.now)) }
+{
+    let facts = own_facts(alloc, base, &base.sources, forced, job)?;
+    let own = reasons(alloc, &facts)?;
+    Ok(own)
+}
+
+/// The reasons of each of the jobs, where these are forced, but for the inputs whose job is Dirty. `OutOfMemory` where there is no memory for them.
+pub(crate) fn all_own(
+    alloc: Global,
+    base: &Base,
+    jobs: &[Job],
+    forced: &[bool],
+) -> Result<Vec<List<Reason>>, OutOfMemory>
+    ensures { IfOk result (λ own. own.items ≡ own_by base.now jobs.now forced.now) }
+{
+    let mut found = Vec::new(alloc);
+    for (number, job) in jobs.iter().enumerate() {
+        let Some(flag) = forced.get(number) else {
+            return Ok(found);
+        };
+        found.push(own_reasons(alloc, base, *flag, job)?)?;
+    }
     Ok(found)
 }

@@ -13,8 +13,8 @@ pub(crate) struct Lent<'l> {
     pub(crate) outputs: Vec<&'l List<bool>>,
 }
 
-// Each of the elements, lent.
-fn each<'l, T>(alloc: Global, elements: &'l [T]) -> Result<Vec<&'l T>, OutOfMemory>
+/// Each of the elements, lent.
+pub(crate) fn each<'l, T>(alloc: Global, elements: &'l [T]) -> Result<Vec<&'l T>, OutOfMemory>
     ensures { IfOk result (λ found. lent found.items ≡ elements.now) }
 {
     let mut found = Vec::with_capacity(alloc, elements.len())?;

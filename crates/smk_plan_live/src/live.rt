@@ -10,13 +10,15 @@ ghost use Rattle.smk_plan_table.specs.Plans.{HasMadeAt};
 use crate::Phase;
 use crate::base::Base;
 use crate::flags::Flags;
+use crate::learning::all_own;
+use crate::lending::{each, lend};
 use crate::now::{entry_now, sight_now, site_of};
 use smk_base::{List, OutOfMemory, PathText};
 use smk_chain::{Jobs, Listings};
 use smk_pick::Settings;
 use smk_plan::Sight;
 use smk_plan_facts::own_facts;
-use smk_plan_states::{Rank, Ranking, Table};
+use smk_plan_states::{Rank, Ranking, Rows, Table};
 use smk_store::Entry;
 use smk_trigger::{JobFacts, State, reasons};
 use std::alloc::Global;
@@ -67,7 +69,8 @@ fn began_at(began: &[Option<State>], number: usize) -> Option<&State>
 }
 
 impl LivePlan {
-    ghost use Rattle.smk_plan_live.specs.Lives.{IsLive, IsAgreed, AreMakersWhole, facts_now, judging_of};
+    ghost use Rattle.smk_plan_live.specs.Kept.{facts_kept, facts_now};
+    ghost use Rattle.smk_plan_live.specs.Lives.{IsLive, IsAgreed, AreMakersWhole, judging_of};
     ghost use Rattle.smk_plan_states.specs.Tables.{IsTableOf};
     ghost use Rattle.smk_plan_states.specs.Served.{AreServed};
     ghost use Rattle.smk_plan_live.specs.Now.{output_entry, sight_now};
@@ -135,6 +138,25 @@ impl LivePlan {
             begun,
         )?;
         Ok(state)
+    }
+
+    /// The states of all jobs now. `OutOfMemory` where there is no memory for them.
+    pub fn states(&self, alloc: Global) -> Result<List<State>, OutOfMemory>
+        ensures { IfOk result (λ states. states ≡ self.now.plan.states) }
+    {
+        let forced = self.flags.forced.as_slice();
+        let jobs = self.base.jobs.jobs.as_slice();
+        let own = all_own(alloc, &self.base, jobs, forced)?;
+        let lent = lend(alloc, self.flags.outputs.as_slice())?;
+        let reasons = each(alloc, own.as_slice())?;
+        let rows = Rows {
+            outputs: lent.outputs.as_slice(),
+            makers: self.flags.makers.as_slice(),
+            own: self.flags.own.as_slice(),
+            running: self.base.began.as_slice(),
+        };
+        let states = self.table.states(alloc, &rows, reasons.as_slice(), forced, &self.ranking)?;
+        Ok(states)
     }
 
     /// The jobs. It takes no memory.

@@ -98,13 +98,13 @@ impl LivePlan {
         let Some(job) = self.base.jobs.jobs.as_slice().get(number) else {
             return Err(OutOfMemory);
         };
-        let Some(facts) = self.facts.as_slice().get(number) else {
+        let Some(forced) = self.flags.forced.as_slice().get(number) else {
             return Err(OutOfMemory);
         };
         let sights = sights_but(alloc, &self.base, path, job)?;
         Ok(Loss {
             number,
-            forced: facts.forced,
+            forced: *forced,
             sights,
         })
     }

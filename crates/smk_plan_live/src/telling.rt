@@ -123,6 +123,8 @@ fn tell_by(
 ) -> Result<Made, Untold>
     requires table { IsTableOf base.now.jobs settings.now.targets table.now }
     requires begun { begun.now ≡ map has_begun base.now.phases }
+    requires sound { IsSound base.now }
+    requires forced { AreServed base.now.jobs settings.now.targets → forced.now ≡ forced_now settings.now base.now }
     ensures targets { IfOk result (λ made. length made.ranked.current ≡ length settings.now.targets) }
     ensures standing { IfOk result (λ made. AreServed base.now.jobs settings.now.targets → FitOwn own.now (own_now settings.now base.now)
         → FollowsLent settings.now base.now table.now lent.now makers.now forced.now last.entry
@@ -239,6 +241,8 @@ pub(crate) fn tell_known(
     suspects: &[Suspect],
 ) -> Result<Made, PlanFault>
     requires table { IsTableOf base.now.jobs settings.now.targets table.now }
+    requires sound { IsSound base.now }
+    requires forced { AreServed base.now.jobs settings.now.targets → forced.now ≡ forced_now settings.now base.now }
     ensures targets { IfOk result (λ made. length made.ranked.current ≡ length settings.now.targets) }
     ensures standing { IfOk result (λ made. AreServed base.now.jobs settings.now.targets → FitOwn own.now (own_now settings.now base.now)
         → StandsBy table.now (told_lent base.now lent.now makers.now forced.now) made.ranked.ranking) }
