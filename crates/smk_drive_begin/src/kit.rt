@@ -49,7 +49,7 @@ pub(crate) fn ask_of(alloc: Global, job: &Job) -> Result<Ask, OutOfMemory>
     })
 }
 
-/// Whether the job of the number is to be restored.
+/// Whether the job of the number is to be restored. `OutOfMemory` where there is no memory to tell.
 pub(crate) fn is_restore(alloc: Global, live: &LivePlan, job: u32) -> Result<bool, OutOfMemory>
     ensures { IfOk result (λ restored. restored ≡ is_restored live.now job) }
 {

@@ -27,7 +27,7 @@ use std::alloc::Global;
 use std::mem;
 use std::thread::Threads;
 
-// Whether no job has failed and not all is made. It can't be: then all jobs are Clean, and all targets current.
+// Whether no job has failed and not all is made. It can't be: then all jobs are Clean, and all targets current. `OutOfMemory` where there is no memory to tell.
 fn is_unmade(alloc: Global, live: &LivePlan, tally: &Tally) -> Result<bool, OutOfMemory>
     ensures { IfOk result (λ unmade. unmade ≡ (nat_eq tally.now.failed 0 && not (spec.is_all_made live.now.plan.states live.now.plan.current))) }
 {
@@ -36,7 +36,7 @@ fn is_unmade(alloc: Global, live: &LivePlan, tally: &Tally) -> Result<bool, OutO
     Ok(tally.failed == 0 && !is_made)
 }
 
-// Tells the end of a run of this plan in which no fault has come, where all is made, or a job has failed. The answer is which targets are current.
+// Tells the end of a run of this plan in which no fault has come, unless no job has failed and not all is made. The answer is which targets are current.
 fn report_made<O: Sink>(
     alloc: Global,
     settings: &Settings,
