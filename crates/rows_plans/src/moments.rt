@@ -7,6 +7,7 @@ use crate::counting::Counting;
 use crate::flow::{jobs_of, path_of, workspace};
 use crate::touched::put_record;
 use crate::{RowFault, begin, close, looked, made};
+use smk_base::OutOfMemory;
 use smk_plan_live::LivePlan;
 use smk_record::Stamp;
 use smk_trigger::State;
@@ -79,11 +80,11 @@ fn stamp_in_words(stamps: &[Option<Stamp>]) -> &'static str {
 }
 
 // By what the second job's input is judged now.
-fn input_in_words(live: &LivePlan) -> &'static str {
-    match live.facts(1) {
+fn input_in_words(alloc: Global, live: &LivePlan) -> Result<&'static str, OutOfMemory> {
+    Ok(match live.facts(alloc, 1)? {
         None => "no job",
         Some(facts) => stamp_in_words(facts.stamps.as_slice()),
-    }
+    })
 }
 
 // The states of both jobs, and by what the second one's input is judged.
@@ -91,7 +92,7 @@ fn told(alloc: Global, live: &LivePlan) -> Result<String, RowFault> {
     let states = live.states(alloc)?;
     let first = state_in_words(states.as_slice(), 0);
     let last = state_in_words(states.as_slice(), 1);
-    let input = input_in_words(live);
+    let input = input_in_words(alloc, live)?;
     Ok(format!(in alloc; "{first}, {last}, read by {input}")?)
 }
 

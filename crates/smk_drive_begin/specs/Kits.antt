@@ -1,6 +1,6 @@
 -- What a job begins with, and what is kept once it has begun.
 use Rattle.std.specs.Prelude.{◌≡◌, ◌⊎◌, ◌≤◌, ◌+◌, ℕ, Bool, true, false, List, [], ◌∷◌, ◌++◌, map, codes, length, is_none, Contains, Option, Some, None, Result, Ok, Err, is_ok}
-use Rattle.std.specs.List.{list_any, slice_get}
+use Rattle.std.specs.List.{list_any}
 use Rattle.smk_base.specs.declared.tree.Amount.{Amount}
 use Rattle.smk_base.specs.declared.tree.Pair.{Pair}
 use Rattle.smk_world.specs.Devices.{Device, IsSoundDevice, Sunk}
@@ -23,6 +23,7 @@ use Rattle.smk_run.specs.Reports.{HasReported}
 use Rattle.smk_run.specs.Runs.{is_output}
 use Rattle.smk_drive.specs.Lawful.{ask_of}
 use Rattle.smk_drive.specs.Reports.{named_job}
+use Rattle.smk_plan_live.specs.Kept.{facts_kept}
 use Rattle.smk_plan_live.specs.Live.{LivePlan}
 use Rattle.smk_drive_step.specs.declared.children.Child.{Child}
 use Rattle.smk_drive_step.specs.Crews.{IsPutFor}
@@ -39,7 +40,7 @@ use Rattle.smk_drive_begin.specs.declared.kit.Kit.{Kit}
 -- These stamps are known of the inputs of the job of the number, one for each, which records with this serial may have.
 pub record HasStamps (live : LivePlan) (number : ℕ) (j : Job) (made : ℕ) (known : List Stamp) : Type 0 where
   pub facts : JobFacts
-  pub has_facts : slice_get live.facts.items number ≡ Some facts
+  pub has_facts : facts_kept live.base live.flags.forced number ≡ Some facts
   pub stamps : AreStampsFor made facts.stamps known
   pub each : length known ≡ length (in_paths j.recipe)
 

@@ -141,7 +141,7 @@ pub(crate) fn known_stamps(
 ) -> Result<List<Stamp>, OutOfMemory>
     ensures { IfOk result (HasStamps live.now number job.now made) }
 {
-    let Some(facts) = live.facts(number) else {
+    let Some(facts) = live.facts(alloc, number)? else {
         return Err(OutOfMemory);
     };
     match stamps_of(alloc, facts.stamps.as_slice(), made)? {

@@ -26,6 +26,7 @@ use Rattle.smk_job.specs.Jobs.{too_long}
 use Rattle.smk_drive.specs.Moments.{Rules, greatest, progress_of, seen, serial_of}
 use Rattle.smk_drive.specs.Moments.{draws as draws_of}
 use Rattle.smk_plan_live.specs.declared.base.Base.{Base}
+use Rattle.smk_plan_live.proofs.Learned.{facts_are}
 use Rattle.smk_drive_step.specs.Beginning.{HasRead}
 use Rattle.smk_drive_step.specs.Stamping.{AreDigested}
 use Rattle.smk_drive_course.specs.Stands.{Stand, moment_of}
@@ -89,7 +90,9 @@ module _ (rules : Rules) (entry : World) (h : Parts) (s : Stand) (w : World) (be
         let agreed = agrees rules entry h s w before deeds number at may in
         all_stamps rules.read w (counted image h.live.settings b agreed) (records_by image.kept j) (in_paths j.recipe) fit.facts.stamps known stamps
         (counts image h.live.settings b agreed number j is) (clear act x)
-        (told_as image h.live.settings b agreed h.live.facts.items number j fit.facts (at.live.facts agreed.served) at.live.texts is fit.has_facts) fit.stamps.all digested
+        (told_as image h.live.settings b agreed number j fit.facts at.live.texts is
+        (sym (facts_are h.live.settings b at.live.sound h.live.flags.forced (at.live.flags agreed.served).forced number) ∙ fit.has_facts))
+        fit.stamps.all digested
 
     -- ## The serial
 

@@ -20,7 +20,8 @@ use Rattle.smk_laws_plan.proofs.CurrentLists.{get_in}
 use Rattle.smk_laws_protocol.proofs.Basics.{each_in, each_of}
 use Rattle.smk_plan_live.specs.declared.base.Base.{Base}
 use Rattle.smk_plan_live.specs.Agreeing.{AreTold}
-use Rattle.smk_plan_live.specs.Lives.{IsAgreed, facts_now}
+use Rattle.smk_plan_live.specs.Kept.{facts_now}
+use Rattle.smk_plan_live.specs.Lives.{IsAgreed}
 use Rattle.smk_plan_live.specs.Lives.{progress_of as kept_progress}
 use Rattle.smk_plan_live.specs.Now.{known_now, seen_now}
 use Rattle.smk_plan_live.specs.Phases.{begun_in}
@@ -66,11 +67,10 @@ module _ (image : Image) (settings : Settings) (b : Base) (agreed : IsAgreed ima
 
   -- the stamps that are told of its inputs
   pub told_as :
-      (facts : List JobFacts) (n : ℕ) (j : Job) (f : JobFacts) → facts ≡ facts_now settings b → list_all has_path_texts b.jobs.jobs ≡ true →
-      slice_get b.jobs.jobs n ≡ Some j → slice_get facts n ≡ Some f → AllZip (IsToldAs counted (records_by counted.kept j)) (in_paths j.recipe) f.stamps
-  told_as facts n j f are texts is has =
+      (n : ℕ) (j : Job) (f : JobFacts) → list_all has_path_texts b.jobs.jobs ≡ true → slice_get b.jobs.jobs n ≡ Some j →
+      slice_get (facts_now settings b) n ≡ Some f → AllZip (IsToldAs counted (records_by counted.kept j)) (in_paths j.recipe) f.stamps
+  told_as n j f texts is has =
       let all =
       facts_so counted settings (begun_in b.jobs.jobs b.phases) (with_states b.jobs []) b.jobs known (seen_now b) agree.stored agree.sighted agree.summed
       agree.recorded agree.read texts in
-      (zip_get (AreFactsOf counted settings (begun_in b.jobs.jobs b.phases) (with_states b.jobs [])) b.jobs.jobs (facts_now settings b) n j f all is
-      (subst (λ fs. slice_get fs n ≡ Some f) are has)).stamps
+      (zip_get (AreFactsOf counted settings (begun_in b.jobs.jobs b.phases) (with_states b.jobs [])) b.jobs.jobs (facts_now settings b) n j f all is has).stamps

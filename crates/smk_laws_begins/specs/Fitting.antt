@@ -20,6 +20,7 @@ use Rattle.smk_report.specs.declared.fault.Fault.{Fault}
 use Rattle.smk_report.specs.declared.fault.Fault.TheVariants as fault
 use Rattle.smk_format.specs.Refused.{command_of}
 use Rattle.smk_drive.specs.Lawful.{ask_of}
+use Rattle.smk_plan_live.specs.Kept.{facts_kept}
 use Rattle.smk_plan_live.specs.Live.{LivePlan}
 use Rattle.smk_plan_live.specs.declared.phase.Phase.TheVariants.{Waiting}
 use Rattle.smk_plan_live.specs.Lives.{AreWhole}
@@ -78,7 +79,7 @@ pub record IsFit
   pub serial : serial_of h.live draws h.next name ≡ Ok made
   pub fits : made < 2 ^ 64
   pub facts : JobFacts
-  pub has_facts : slice_get h.live.facts.items number ≡ Some facts
+  pub has_facts : facts_kept h.live.base h.live.flags.forced number ≡ Some facts
   pub stamps : AreStampsFor made facts.stamps known
   pub text : command ≡ command_of settings.cores j
   pub asks : ask ≡ ask_of j

@@ -1,56 +1,58 @@
 -- A plan that is kept, once what is new was put in.
-use Rattle.std.proofs.Common.{◌≡◌, ℕ, zero, suc, ◌<◌, Bool, true, false, not, ◌&&◌, ◌==◌, List, [], ◌∷◌, map, length, Option, Some, None, option_map, refl, sym, ap, ap₂, subst, ◌∙◌, bytes_eq, arith}
+use Rattle.std.proofs.Common.{◌≡◌, ℕ, zero, suc, ◌+◌, ◌<◌, Bool, true, false, not, ◌&&◌, ◌==◌, List, [], ◌∷◌, map, length, Option, Some, None, option_map, refl, sym, ap, ap₂, subst, ◌∙◌, bytes_eq, arith}
 use Rattle.std.specs.Prelude.{slice_index_or, slice_set}
 use Rattle.std.specs.BTreeMap.{get_by_text}
 use Rattle.std.specs.BTreeSet.{contains_text}
 use Rattle.std.specs.List.{list_any, slice_get, AllZip}
 use Rattle.std.proofs.lemmas.Bool.{eqb-true, eqb-false}
 use Rattle.std.proofs.lemmas.Option.{same_Some}
-use Rattle.smk_base.proofs.Under.{false_unless}
+use Rattle.smk_base.proofs.Under.{false_unless, never_both}
 use Rattle.smk_world.specs.declared.recipe.Out.{Out}
 use Rattle.smk_world.specs.World.{out_paths}
 use Rattle.smk_world.specs.Trees.{Path, Each, among, outs_of}
 use Rattle.smk_flow.specs.declared.job.Job.{Job}
 use Rattle.smk_store.specs.declared.store.Entry.{Entry}
-use Rattle.smk_trigger.specs.declared.facts.JobFacts.{JobFacts}
 use Rattle.smk_trigger.specs.declared.reason.State.{State}
 use Rattle.smk_trigger.specs.Reasons.{reasons_of}
 use Rattle.smk_pick.specs.declared.settings.Settings.{Settings}
 use Rattle.smk_plan.specs.declared.plan.Plan.{Plan as Told}
 use Rattle.smk_plan.specs.declared.seen.Sight.{Sight}
 use Rattle.smk_plan.specs.States.{by_force, job_path, makes, test_some}
-use Rattle.smk_plan_facts.specs.Facts.{told_sources}
-use Rattle.smk_plan_facts.specs.Telling.{facts_in, forced_by, is_made_of, outputs_in}
+use Rattle.smk_plan_facts.specs.Telling.{forced_by, is_made_of, outputs_in}
 use Rattle.smk_plan_states.specs.declared.standing.Last.{Last}
-use Rattle.smk_plan_states.specs.Rows.{lent}
+use Rattle.smk_plan_states.specs.declared.rows.Own.{Own}
+use Rattle.smk_plan_states.specs.declared.rows.Own.TheVariants.{Unknown}
+use Rattle.smk_plan_states.specs.Rows.{FitOwn, FitsOwn, lent}
 use Rattle.smk_plan_states.specs.Served.{AreServed}
 use Rattle.smk_plan_states.specs.Standing.{StandsBy, states_by}
-use Rattle.smk_plan_states.specs.Stays.{AreRowsBut, Told as TellsRows}
+use Rattle.smk_plan_states.specs.Stays.{AreRowsBut, Told as TellsRows, has_number}
 use Rattle.smk_plan_states.proofs.Counts.{states_each}
 use Rattle.smk_plan_table.specs.declared.planning.Ranked.{Ranked}
+use Rattle.smk_plan_table.specs.declared.suspects.Suspect.{Suspect}
 use Rattle.smk_plan_table.specs.Parts.{IsSuspectOf}
 use Rattle.smk_plan_live.specs.declared.base.Base.{Base}
 use Rattle.smk_plan_live.specs.declared.lending.Lent.{Lent}
 use Rattle.smk_plan_live.specs.Live.{LivePlan, plan_kept}
 use Rattle.smk_plan_live.specs.declared.next.Change.{Change}
-use Rattle.smk_plan_live.specs.declared.renewing.Renewed.{Renewed}
 use Rattle.smk_plan_live.specs.declared.sites.Site.{Site}
 use Rattle.smk_plan_live.specs.declared.spending.Loss.{Loss}
 use Rattle.smk_plan_live.specs.declared.phase.Phase.{Phase}
 use Rattle.smk_plan_live.specs.declared.phase.Phase.TheVariants.{Waiting, Running, Closed}
 use Rattle.smk_plan_live.specs.Now.{known_now, seen_now}
 use Rattle.smk_plan_live.specs.Phases.{begun_in, has_begun}
-use Rattle.smk_plan_live.specs.Same.{paths_in, AreSameBut, put_each, all_news, numbered_facts, numbered_force, numbered_reasons, users_from}
+use Rattle.smk_plan_live.specs.Learning.{forgotten}
+use Rattle.smk_plan_live.specs.Same.{paths_in, is_user, AreSameBut, users_from}
 use Rattle.smk_plan_live.specs.Carried.{has_name, turned, filled, advanced, sighted, sight_but, spent, spent_at}
-use Rattle.smk_plan_live.specs.Kept.{told_kept, told_lent}
-use Rattle.smk_plan_live.specs.Lives.{AreLentNow, AreMakersWhole, AreNamed, AreRanked, FollowsLent, IsLive, IsNow, facts_now, told_live}
+use Rattle.smk_plan_live.specs.Kept.{facts_if, facts_kept, forced_now, own_by, own_now, told_by_flags, told_lent}
+use Rattle.smk_plan_live.specs.Lives.{AreLentNow, AreMakersWhole, AreNamed, AreRanked, FollowsLent, IsLive, IsNow}
 use Rattle.smk_plan_live.specs.Steps.{IsAhead, IsChanged, IsChangeOf, IsLast, IsLoss, StandsNext, moved, or_no_numbers, plan_next, readers_at, told_next}
 use Rattle.smk_plan_live.proofs.Changed.{set_back, set_here, get_other, filled_but, sighted_but, turned_sound, filled_sound, sighted_sound, closed_begun, begun_here, begun_other, named_in}
+use Rattle.smk_plan_live.proofs.Learned.{fits_but, fits_unset, forced_is, index_same, own_get, own_is, unequal}
 use Rattle.smk_plan_live.proofs.Restoring.{at_same, one_name}
-use Rattle.smk_plan_live.proofs.Same.{doubted_same, is_other}
-use Rattle.smk_plan_live.proofs.Settled.{judged, news_are, reasons_are, outputs_are, makers_are, doubted_are}
-use Rattle.smk_plan_live.proofs.Stepping.{flags_stay, force_stays, reasons_stay}
-pub use Rattle.smk_plan_live.proofs.Putting.{mapped_at, put_map}
+use Rattle.smk_plan_live.proofs.Same.{doubted_same, facts_same, is_other}
+use Rattle.smk_plan_live.proofs.Settled.{outputs_are, makers_are, doubted_are, user_at}
+use Rattle.smk_plan_live.proofs.Stepping.{flags_stay}
+pub use Rattle.smk_plan_live.proofs.Putting.{mapped_at, put_one}
 
 -- ## Numbers of jobs
 
@@ -149,20 +151,18 @@ closed_changed p live n runs row sights =
     }
 
 pub sighted_changed :
-    (p : LivePlan) (live : IsLive p) (n : ℕ) (facts : JobFacts) → slice_get p.facts.items n ≡ Some facts → (flag : Bool) → flag ≡ facts.forced →
-    (sights : Option (List (Option Sight))) →
+    (p : LivePlan) (live : IsLive p) (n : ℕ) (flag : Bool) → slice_get p.flags.forced n ≡ Some flag → (sights : Option (List (Option Sight))) →
     IsChanged p.settings p.base (sighted n sights p.base) n flag
-sighted_changed p live n facts has flag is sights =
+sighted_changed p live n flag has sights =
     record {
       sound = sighted_sound p.base live.sound n sights;
       named = record { begun = live.named.begun; running = live.named.running };
       same = λ j at. sighted_but p.base live.sound n j at sights;
       its = λ served j at.
           let forced : Job → Bool = forced_by p.settings (begun_in p.base.jobs.jobs p.base.phases) in
-          let fact : Job → JobFacts = facts_in (known_now p.base) (seen_now p.base) (among (told_sources p.base.jobs.makers)) forced in
-          let same : fact j ≡ facts = same_Some (fact j) facts
-          (sym (mapped_at fact p.base.jobs.jobs n j at) ∙ sym (ap (λ (fs : List JobFacts). slice_get fs n) (live.facts served)) ∙ has) in
-          ap (λ (f : JobFacts). f.forced) same ∙ sym is;
+          same_Some (forced j) flag
+          (sym (mapped_at forced p.base.jobs.jobs n j at)
+          ∙ sym (ap (λ (flags : List Bool). slice_get flags n) ((live.flags served).forced ∙ forced_is p.settings p.base)) ∙ has);
       others = λ served m k other here. refl;
       running = λ m other. refl;
     }
@@ -206,9 +206,6 @@ module _ (p : LivePlan) (n : ℕ) (forced : Bool) (ahead : IsAhead p n forced) (
   abbrev outs : List Out
   outs = outs_of is.job.recipe
 
-  abbrev told : Path → Bool
-  told = among (told_sources p.base.jobs.makers)
-
   same : AreSameBut outs (known_now before) (known_now p.base) (seen_now before) (seen_now p.base)
   same = ahead.changed.same is.job is.is
 
@@ -221,15 +218,15 @@ module _ (p : LivePlan) (n : ℕ) (forced : Bool) (ahead : IsAhead p n forced) (
         ap (λ rows. readers_at rows n) (ahead.live.readers served)
         ∙ ap or_no_numbers (mapped_at (λ (k : Job). users_from (outs_of k.recipe) 0 jobs) jobs n is.job is.is)
 
-    facts_then : put_each p.facts.items (map numbered_facts change.news.items) ≡ facts_now p.settings p.base
-    facts_then =
-        ap (λ news. put_each p.facts.items (map numbered_facts news))
-        (is.news
-        ∙ (λ i. all_news (known_now p.base) (seen_now p.base) (λ q. ahead.changed.sound.sources q i) forced n is.job p.facts.items (readers_are i)))
-        ∙ news_are outs (known_now before) (known_now p.base) (seen_now before) (seen_now p.base) same told
-        (forced_by p.settings (begun_in jobs before.phases)) (forced_by p.settings (begun_in jobs p.base.phases)) n jobs p.facts.items
-        (ahead.live.facts served) (λ m k apart here. (other m k apart here, ahead.changed.others served m k apart here)) forced is.job is.is
-        (ahead.changed.its served is.job is.is)
+    -- which jobs are forced
+    force_then : change.forced.items ≡ forced_now p.settings p.base
+    force_then =
+        let was : Job → Bool = forced_by p.settings (begun_in jobs before.phases) in
+        let now : Job → Bool = forced_by p.settings (begun_in jobs p.base.phases) in
+        is.force ∙ ap (λ flags. slice_set flags n forced) ((ahead.live.flags served).forced ∙ forced_is p.settings before)
+        ∙ put_one was now jobs n forced (λ m k apart here. sym (ahead.changed.others served m k apart here))
+        (λ k here. sym (ahead.changed.its served k here))
+        ∙ sym (forced_is p.settings p.base)
 
     outputs_then : slice_set p.flags.outputs n change.outputs ≡ map (outputs_in (known_now p.base) (seen_now p.base)) jobs
     outputs_then =
@@ -247,94 +244,130 @@ module _ (p : LivePlan) (n : ℕ) (forced : Bool) (ahead : IsAhead p n forced) (
         subst (AllZip (IsSuspectOf (known_now p.base) (seen_now p.base) p.settings.bounds) jobs) (sym is.suspects)
         (doubted_are (IsSuspectOf (known_now before) (seen_now before) p.settings.bounds) (IsSuspectOf (known_now p.base) (seen_now p.base) p.settings.bounds)
         n jobs p.flags.suspects is.suspect
-        (λ m k x apart here are. doubted_same outs (known_now before) (known_now p.base) (seen_now before) (seen_now p.base) same told p.settings.bounds k x
+        (λ m k x apart here are. doubted_same outs (known_now before) (known_now p.base) (seen_now before) (seen_now p.base) same (contains_text p.base.sources) p.settings.bounds k x
         (other m k apart here) are)
         (λ k here. subst (λ (x : Job). IsSuspectOf (known_now p.base) (seen_now p.base) p.settings.bounds x is.suspect)
         (same_Some is.job k (sym is.is ∙ here)) is.doubted)
         (ahead.live.flags served).suspects)
 
-  -- the reasons with those that are new are those of the facts with those that are new
-  reasons_then : put_each p.reasons.items (map numbered_reasons change.news.items) ≡ map reasons_of (put_each p.facts.items (map numbered_facts change.news.items))
-  reasons_then =
-      ap₂ put_each ahead.live.reasons by_facts
-      ∙ sym (put_map reasons_of (λ (r : Renewed). r.number) (λ (r : Renewed). r.facts) change.news.items p.facts.items)
-    where
-      by_facts : map numbered_reasons change.news.items ≡ map judged change.news.items
-      by_facts =
-          subst (λ (news : List Renewed). map numbered_reasons news ≡ map judged news) (sym is.news)
-          (reasons_are (known_now p.base) (seen_now p.base) (contains_text p.base.sources) forced n is.job p.facts.items (readers_at p.readers.items n))
+    -- what another job that is no reader is judged by is as it was
+    facts_stay :
+        (m : ℕ) → (m == n) ≡ false → has_number m (readers_at p.readers.items n) ≡ false → facts_kept p.base change.forced.items m ≡ facts_kept before p.flags.forced m
+    facts_stay m apart free =
+        ap (facts_if p.base (slice_get jobs m)) (ap (λ flags. slice_get flags m) is.force ∙ get_other p.flags.forced n m forced (eqb-false m n apart))
+        ∙ go (slice_get jobs m) refl (slice_get p.flags.forced m)
+      where
+        unread : (k : Job) → slice_get jobs m ≡ Some k → (b : Bool) → is_user outs k ≡ b → is_user outs k ≡ false
+        unread k here true reads =
+            let whole : 0 + m ≡ m = omega arith in
+            absurd
+            (never_both (has_number m (readers_at p.readers.items n))
+            (ap (has_number m) readers_are
+            ∙ subst (λ (s : ℕ). has_number s (users_from outs 0 jobs) ≡ true) whole (user_at outs 0 jobs m k here reads)) free)
+        unread k here false free = free
+
+        go : (o : Option Job) → slice_get jobs m ≡ o → (f : Option Bool) → facts_if p.base o f ≡ facts_if before o f
+        go None here f = refl
+        go (Some k) here None = refl
+        go (Some k) here (Some f) =
+            ap Some
+            (facts_same outs (known_now before) (known_now p.base) (seen_now before) (seen_now p.base) same (contains_text p.base.sources) (λ x. f) k
+            (unread k here (is_user outs k) refl) (other m k (eqb-false m n apart) here))
+
+    -- and so are its reasons
+    reasons_stay :
+        (m : ℕ) → (m == n) ≡ false → has_number m (readers_at p.readers.items n) ≡ false →
+        slice_get (own_by p.base jobs change.forced.items) m ≡ slice_get (own_by before jobs p.flags.forced) m
+    reasons_stay m apart free =
+        own_get p.base jobs change.forced.items m ∙ ap (option_map reasons_of) (facts_stay m apart free) ∙ sym (own_get before jobs p.flags.forced m)
+
+    -- the flags of reasons fit still, once those of the job and of its readers are forgotten
+    own_then : FitOwn (forgotten (slice_set p.flags.own n Unknown) (readers_at p.readers.items n)) (own_now p.settings p.base)
+    own_then m =
+        fits_but (slice_set p.flags.own n Unknown) (readers_at p.readers.items n) m (slice_index_or (own_now p.settings p.base) m [])
+        (λ free. fits_unset p.flags.own n m (slice_index_or (own_now p.settings p.base) m [])
+        (λ apart. subst (FitsOwn (slice_index_or p.flags.own m Unknown)) (sym (reasons_are m (unequal m n apart) free)) ((ahead.live.flags served).own m)))
+      where
+        reasons_are :
+            (k : ℕ) → (k == n) ≡ false → has_number k (readers_at p.readers.items n) ≡ false →
+            slice_index_or (own_now p.settings p.base) k [] ≡ slice_index_or (own_now p.settings before) k []
+        reasons_are k apart free =
+            ap (λ own. slice_index_or own k []) (sym (own_is p.settings p.base ahead.changed.sound change.forced.items force_then))
+            ∙ index_same (own_by p.base jobs change.forced.items) (own_by before jobs p.flags.forced) k [] (reasons_stay k apart free)
+            ∙ ap (λ own. slice_index_or own k []) (own_is p.settings before ahead.live.sound p.flags.forced (ahead.live.flags served).forced)
+
+    -- of all other jobs what is told now is what the plan told, but for the reasons of the readers
+    rows_but : AreRowsBut p.table.origins n (readers_at p.readers.items n) (told_by_flags before p.flags.outputs p.flags.makers p.flags.forced) (told_next p change)
+    rows_but =
+        record {
+          outputs = λ m apart.
+              ap (λ k. slice_get (slice_set p.flags.outputs k change.outputs) m) is.number ∙ get_other p.flags.outputs n m change.outputs (eqb-false m n apart);
+          makers = λ m o at apart.
+              ap (λ flags. slice_index_or flags m false) is.makers
+              ∙ flags_stay (is_made_of (known_now p.base) (seen_now p.base) is.job) n jobs p.base.jobs.makers p.flags.makers m o
+              (ap (λ os. slice_get os m) (sym ahead.live.table.origins) ∙ at) apart;
+          reasons = reasons_stay;
+          forced = λ m apart. ap (λ flags. slice_get flags m) is.force ∙ get_other p.flags.forced n m forced (eqb-false m n apart);
+          running = ahead.changed.running;
+        }
 
   -- what is lent with what is new
   pub lent_then :
-      (rows : Lent) → lent rows.outputs.items ≡ slice_set p.flags.outputs change.number change.outputs →
-      lent rows.reasons.items ≡ put_each p.reasons.items (map numbered_reasons change.news.items) →
-      rows.forced.items ≡ put_each (map (λ (f : JobFacts). f.forced) p.facts.items) (map numbered_force change.news.items) →
-      AreServed p.base.jobs p.settings.targets → AreLentNow p.settings p.base rows change.makers change.suspects.items
-  lent_then rows outputs reasons force served =
+      (rows : Lent) → lent rows.outputs.items ≡ slice_set p.flags.outputs change.number change.outputs → (makers : List Bool) → makers ≡ change.makers →
+      (own : List Own) → (AreServed p.base.jobs p.settings.targets → FitOwn own (own_now p.settings p.base)) → (suspects : List Suspect) →
+      suspects ≡ change.suspects.items → AreServed p.base.jobs p.settings.targets → AreLentNow p.settings p.base rows makers own suspects
+  lent_then rows outputs makers whole own fits suspects doubts served =
       record {
         sound = ahead.changed.sound;
         named = ahead.changed.named;
         texts = ahead.live.texts;
         outputs = outputs ∙ ap (λ m. slice_set p.flags.outputs m change.outputs) is.number ∙ outputs_then served;
-        whole = makers_then served;
-        reasons = reasons ∙ reasons_then ∙ ap (map reasons_of) (facts_then served);
-        forced =
-            force ∙ sym (put_map (λ (f : JobFacts). f.forced) (λ (r : Renewed). r.number) (λ (r : Renewed). r.facts) change.news.items p.facts.items)
-            ∙ ap (map (λ (f : JobFacts). f.forced)) (facts_then served);
-        doubted = doubted_then served;
-      }
-
-  -- of all other jobs what is told now is what the plan told, but for the reasons of the readers
-  rows_but : AreRowsBut p.table.origins n (readers_at p.readers.items n) (told_live p ahead.began) (told_next p change)
-  rows_but =
-      record {
-        outputs = λ m other. ap (λ k. slice_get (slice_set p.flags.outputs k change.outputs) m) is.number ∙ get_other p.flags.outputs n m change.outputs (eqb-false m n other);
-        makers = λ m o at other.
-            ap (λ flags. slice_index_or flags m false) is.makers
-            ∙ flags_stay (is_made_of (known_now p.base) (seen_now p.base) is.job) n jobs p.base.jobs.makers p.flags.makers m o
-            (ap (λ os. slice_get os m) (sym ahead.live.table.origins) ∙ at) other;
-        reasons = λ m other free.
-            ap (λ news. slice_get (put_each p.reasons.items (map numbered_reasons news)) m) is.news
-            ∙ reasons_stay (known_now p.base) (seen_now p.base) (contains_text p.base.sources) forced n is.job p.facts.items
-            (readers_at p.readers.items n) p.reasons.items m other free;
-        forced = λ m other.
-            ap (λ news. slice_get (put_each (map (λ (f : JobFacts). f.forced) p.facts.items) (map numbered_force news)) m) is.news
-            ∙ force_stays (known_now p.base) (seen_now p.base) (contains_text p.base.sources) forced n is.job p.facts.items
-            (readers_at p.readers.items n) m other;
-        running = ahead.changed.running;
+        whole = subst (AreMakersWhole p.base) (sym whole) (makers_then served);
+        own = fits served;
+        doubted = subst (AllZip (IsSuspectOf (known_now p.base) (seen_now p.base) p.settings.bounds) jobs) (sym doubts) (doubted_then served);
       }
 
   -- what is lent with what is new is told now
   pub lent_is :
-      (rows : Lent) → lent rows.outputs.items ≡ slice_set p.flags.outputs change.number change.outputs →
-      lent rows.reasons.items ≡ put_each p.reasons.items (map numbered_reasons change.news.items) →
-      rows.forced.items ≡ put_each (map (λ (f : JobFacts). f.forced) p.facts.items) (map numbered_force change.news.items) →
-      told_lent rows change.makers p.base.began ≡ told_next p change
-  lent_is rows outputs reasons force = λ i.
-      record { outputs = outputs i; makers = change.makers; reasons = reasons i; forced = force i; running = p.base.began }
+      (rows : Lent) → lent rows.outputs.items ≡ slice_set p.flags.outputs change.number change.outputs → (makers flags : List Bool) → makers ≡ change.makers →
+      flags ≡ change.forced.items → told_lent p.base rows makers flags ≡ told_next p change
+  lent_is rows outputs makers flags whole force = λ i. told_by_flags p.base (outputs i) (whole i) (force i)
+
+  -- it is told rightly which jobs are forced
+  pub force_is : (flags : List Bool) → flags ≡ change.forced.items → AreServed p.base.jobs p.settings.targets → flags ≡ forced_now p.settings p.base
+  force_is flags force served = force ∙ force_then served
+
+  -- what is known of reasons fits
+  pub own_fits :
+      (own : List Own) → own ≡ forgotten (slice_set p.flags.own n Unknown) (readers_at p.readers.items n) → AreServed p.base.jobs p.settings.targets →
+      FitOwn own (own_now p.settings p.base)
+  own_fits own are served = subst (λ (flags : List Own). FitOwn flags (own_now p.settings p.base)) (sym are) (own_then served)
 
   -- what the plan keeps stood before the step
   pub follows_then :
-      (l : Last) → IsLast p n l → (rows : Lent) → told_lent rows change.makers p.base.began ≡ told_next p change →
-      FollowsLent p.settings p.base p.table rows change.makers (Some l)
-  follows_then l kept rows told_is served = (
-    told_live p ahead.began,
-    coe 1 0 (i. StandsBy p.table (told_live p ahead.began) (kept.ranking i)) (ahead.live.standing served),
-    coe 1 0 (i. AreRowsBut p.table.origins (kept.job i) (kept.readers i) (told_live p ahead.began) (told_is i)) rows_but,
+      (l : Last) → IsLast p n l → (rows : Lent) (makers flags : List Bool) → told_lent p.base rows makers flags ≡ told_next p change →
+      FollowsLent p.settings p.base p.table rows makers flags (Some l)
+  follows_then l kept rows makers flags told_is served = (
+    told_by_flags before p.flags.outputs p.flags.makers p.flags.forced,
+    coe 1 0 (i. StandsBy p.table (told_by_flags before p.flags.outputs p.flags.makers p.flags.forced) (kept.ranking i)) (ahead.live.standing served),
+    coe 1 0
+        (i.
+        AreRowsBut p.table.origins (kept.job i) (kept.readers i) (told_by_flags before p.flags.outputs p.flags.makers p.flags.forced) (told_is i))
+        (rows_but served),
   )
 
   -- the plan with what is new
   pub installed :
-      (new : LivePlan) (ranked : Ranked) (held : Bool) → length ranked.current ≡ length p.settings.targets →
+      (new : LivePlan) (ranked : Ranked) (held : Bool) (own : List Own) → length ranked.current ≡ length p.settings.targets →
       IsNow p.settings p.base (plan_next p change ranked) held → (AreServed p.base.jobs p.settings.targets → StandsNext p change ranked.ranking) →
-      AreRanked p.settings p.base ranked.ranking (plan_next p change ranked) → new.base ≡ p.base → new.settings ≡ p.settings →
-      new.facts.items ≡ put_each p.facts.items (map numbered_facts change.news.items) →
-      new.reasons.items ≡ put_each p.reasons.items (map numbered_reasons change.news.items) →
-      new.plan ≡ plan_kept new.base new.facts.items new.reasons.items new.ranking ranked.current ranked.known new.table new.flags →
+      AreRanked p.settings p.base ranked.ranking (plan_next p change ranked) →
+      (AreServed p.base.jobs p.settings.targets → FitOwn own (own_now p.settings p.base)) → new.base ≡ p.base → new.settings ≡ p.settings →
+      new.plan ≡ plan_kept new.base new.ranking ranked.current ranked.known new.table new.flags →
       new.ranking ≡ ranked.ranking → new.held ≡ held →
       new.flags.outputs ≡ slice_set p.flags.outputs change.number change.outputs → new.flags.makers ≡ change.makers →
-      new.flags.suspects ≡ change.suspects.items → new.table ≡ p.table → new.readers ≡ p.readers → new.commanded ≡ p.commanded → IsLive new
-  installed new ranked held targets now stands are base settings facts reasons made ranks back outputs makers suspects table readers commanded =
+      new.flags.suspects ≡ change.suspects.items → new.flags.own ≡ own → new.flags.forced ≡ change.forced.items → new.table ≡ p.table →
+      new.readers ≡ p.readers → new.commanded ≡ p.commanded → IsLive new
+  installed new ranked held flags targets now stands are fits base settings made ranks back outputs makers suspects own force table readers commanded =
       coe 1 0
       (i.
       IsLive
@@ -347,47 +380,35 @@ module _ (p : LivePlan) (n : ℕ) (forced : Bool) (ahead : IsAhead p n forced) (
         table = table i;
         readers = readers i;
         commanded = commanded i;
-        flags = record { outputs = its i; makers = makers i; suspects = suspects i };
+        flags = record { outputs = its i; makers = makers i; suspects = suspects i; own = own i; forced = force i };
       }))
       (record {
         sound = ahead.changed.sound;
         texts = ahead.live.texts;
         each = states_each p.base.jobs p.settings.targets p.table (told_next p change) ranked.ranking ahead.live.table;
         targets = targets;
-        facts = λ served. facts ∙ facts_then served;
-        reasons = reasons ∙ reasons_then ∙ sym (ap (map reasons_of) facts);
         now = now;
         table = ahead.live.table;
-        flags = λ served. record { outputs = outputs_then served; makers = makers_then served; suspects = doubted_then served };
+        flags = λ served.
+            record {
+              outputs = outputs_then served;
+              makers = makers_then served;
+              suspects = doubted_then served;
+              own = fits served;
+              forced = force_then served;
+            };
         readers = ahead.live.readers;
-        standing = λ served.
-            subst (λ (rows : TellsRows). StandsBy p.table rows ranked.ranking) told_is (stands served);
+        standing = λ served. subst (λ (rows : TellsRows). StandsBy p.table rows ranked.ranking) told_is (stands served);
         ranked = are;
         named = ahead.changed.named;
         commands = ahead.live.commands;
       })
     where
-      force : put_each (map (λ (f : JobFacts). f.forced) p.facts.items) (map numbered_force change.news.items) ≡ map (λ (f : JobFacts). f.forced) new.facts.items
-      force =
-          sym (put_map (λ (f : JobFacts). f.forced) (λ (r : Renewed). r.number) (λ (r : Renewed). r.facts) change.news.items p.facts.items)
-          ∙ sym (ap (map (λ (f : JobFacts). f.forced)) facts)
+      told_is : told_next p change ≡ told_by_flags p.base (slice_set p.flags.outputs n change.outputs) change.makers change.forced.items
+      told_is = ap (λ m. told_by_flags p.base (slice_set p.flags.outputs m change.outputs) change.makers change.forced.items) is.number
 
-      told_is :
-          told_next p change
-          ≡ told_kept (record { outputs = slice_set p.flags.outputs n change.outputs; makers = change.makers; suspects = change.suspects.items }) new.reasons.items
-          new.facts.items p.base.began
-      told_is = λ i.
-          record {
-            outputs = slice_set p.flags.outputs (is.number i) change.outputs;
-            makers = change.makers;
-            reasons = sym reasons i;
-            forced = force i;
-            running = p.base.began;
-          }
-
-      told_new : told_kept new.flags new.reasons.items new.facts.items new.base.began ≡ told_next p change
-      told_new = λ i.
-          record { outputs = outputs i; makers = makers i; reasons = reasons i; forced = sym force i; running = (base i).began }
+      told_new : told_by_flags new.base new.flags.outputs new.flags.makers new.flags.forced ≡ told_next p change
+      told_new = λ i. told_by_flags (base i) (outputs i) (makers i) (force i)
 
       planned : new.plan ≡ plan_next p change ranked
       planned = made ∙ (λ i. record { states = states_by (table i) (told_new i) (ranks i); current = ranked.current; known = ranked.known })

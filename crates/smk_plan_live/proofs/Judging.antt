@@ -1,11 +1,10 @@
 -- What the jobs are judged by at any moment.
-use Rattle.std.proofs.Common.{◌≡◌, Bool, List, [], ◌∷◌, map, Option, refl, sym, ap, ap₂, ◌∙◌}
-use Rattle.std.specs.List.{AllZip}
+use Rattle.std.proofs.Common.{◌≡◌, Bool, true, List, [], ◌∷◌, map, refl, sym, ap, ap₂, ◌∙◌}
+use Rattle.std.specs.List.{AllZip, list_all}
 use Rattle.smk_world.specs.Trees.{Each}
 use Rattle.smk_flow.specs.declared.job.Job.{Job}
 use Rattle.smk_store.specs.Images.{Image}
 use Rattle.smk_chain.specs.declared.jobs.Maker.{Maker}
-use Rattle.smk_trigger.specs.declared.reason.State.{State}
 use Rattle.smk_pick.specs.declared.settings.Settings.{Settings}
 use Rattle.smk_plan.specs.declared.fault.PlanFault.{PlanFault}
 use Rattle.smk_plan.specs.declared.plan.Plan.{Plan as Told}
@@ -13,10 +12,11 @@ use Rattle.smk_plan.specs.declared.wholes.Wholes.{Wholes}
 use Rattle.smk_plan.specs.Sights.{wholes_of}
 use Rattle.smk_plan_facts.specs.Facts.{AreFactsOf, IsMade}
 use Rattle.smk_plan_facts.specs.Laws.{FactsAreSo, WholesAreSo}
-use Rattle.smk_plan_facts.specs.Telling.{directories_of, is_told_whole, wholes_in, IsSorted}
+use Rattle.smk_plan_facts.specs.Telling.{directories_of, has_path_texts, is_told_whole, wholes_in, IsSorted}
 use Rattle.smk_plan_states.specs.declared.rows.Rows.{Rows}
 use Rattle.smk_plan_states.specs.Judged.{with_states}
-use Rattle.smk_plan_states.specs.Rows.{lent}
+use Rattle.smk_plan_states.specs.declared.rows.Own.{Own}
+use Rattle.smk_plan_states.specs.Rows.{FitOwn, forced_at, lent, reasons_at}
 use Rattle.smk_plan_states.specs.Stays.{told_by}
 use Rattle.smk_plan_table.specs.declared.suspects.Suspect.{Suspect}
 use Rattle.smk_plan_table.specs.Plans.{Agree, IsGiven, IsRefusedAt}
@@ -24,8 +24,8 @@ use Rattle.smk_plan_live.specs.declared.base.Base.{Base}
 use Rattle.smk_plan_live.specs.declared.lending.Lent.{Lent}
 use Rattle.smk_plan_live.specs.Phases.{begun_in, has_begun}
 use Rattle.smk_plan_live.specs.Now.{known_now, seen_now}
-use Rattle.smk_plan_live.specs.Kept.{told_lent}
-use Rattle.smk_plan_live.specs.Lives.{AreLentNow, AreWhole, IsAgreed, IsTold, facts_now, judging_of, progress_of}
+use Rattle.smk_plan_live.specs.Kept.{facts_now, forced_now, own_by, own_now, told_lent}
+use Rattle.smk_plan_live.specs.Lives.{AreLentNow, AreWhole, IsAgreed, IsTold, judging_of, progress_of}
 use Rattle.smk_plan_live.proofs.Bridge.{reasons_are, forced_are}
 use Rattle.smk_plan_live.proofs.Counted.{as_known, counted_agrees, held_same, made_same, refusal_same, unmarked}
 use Rattle.smk_plan_live.proofs.Numbered.{begun_are, running_are}
@@ -42,10 +42,10 @@ whole_flags jobs test (m ∷ makers) (f ∷ flags) h made = ap₂ (λ g gs. g �
 
 -- what is lent is told by the rows
 pub rows_tell :
-    (l : Lent) (makers : List Bool) (began : List (Option State)) (rows : Rows) → rows.outputs.now ≡ l.outputs.items → rows.makers.now ≡ makers →
-    rows.reasons.now ≡ l.reasons.items → rows.forced.now ≡ l.forced.items → rows.running.now ≡ began → told_by rows ≡ told_lent l makers began
-rows_tell l makers began rows outputs whole reasons forced running = λ i.
-    record { outputs = lent (outputs i); makers = whole i; reasons = lent (reasons i); forced = forced i; running = running i }
+    (b : Base) (l : Lent) (makers forced : List Bool) (rows : Rows) → rows.outputs.now ≡ l.outputs.items → rows.makers.now ≡ makers → rows.running.now ≡ b.began →
+    told_by rows (own_by b b.jobs.jobs forced) forced ≡ told_lent b l makers forced
+rows_tell b l makers forced rows outputs whole running = λ i.
+    record { outputs = lent (outputs i); makers = whole i; reasons = own_by b b.jobs.jobs forced; forced = forced; running = running i }
 
 module _ (facts_law : FactsAreSo) (wholes_law : WholesAreSo) (b : Base) (settings : Settings) (image : Image) (agrees : IsAgreed image settings b) where
   -- the folder as it counts now
@@ -63,11 +63,11 @@ module _ (facts_law : FactsAreSo) (wholes_law : WholesAreSo) (b : Base) (setting
 
   -- what is lent is so in the folder as it counts now
   pub given_now :
-      (l : Lent) (makers : List Bool) (suspects : List Suspect) → AreLentNow settings b l makers suspects → (rows : Rows) → rows.outputs.now ≡ l.outputs.items →
-      rows.makers.now ≡ makers → rows.reasons.now ≡ l.reasons.items → rows.forced.now ≡ l.forced.items → rows.running.now ≡ b.began →
+      (l : Lent) (makers : List Bool) (flags : List Own) (suspects : List Suspect) → AreLentNow settings b l makers flags suspects → (rows : Rows) →
+      rows.outputs.now ≡ l.outputs.items → rows.makers.now ≡ makers → rows.own.now ≡ flags → rows.running.now ≡ b.began →
       (begun : List Bool) → begun ≡ map has_begun b.phases →
       IsGiven (judging_of counted_now settings b) b.jobs (known_now b) (seen_now b) rows begun suspects
-  given_now l makers suspects given rows outputs whole reasons forced running begun has =
+  given_now l makers flags suspects given rows outputs whole own running begun has =
       let are : AllZip (AreFactsOf counted_now settings (begun_in b.jobs.jobs b.phases) (with_states b.jobs [])) b.jobs.jobs (facts_now settings b) =
       facts_law counted_now settings (begun_in b.jobs.jobs b.phases) (with_states b.jobs []) b.jobs (known_now b)
       (seen_now b) agree_now.stored agree_now.sighted agree_now.summed
@@ -79,13 +79,27 @@ module _ (facts_law : FactsAreSo) (wholes_law : WholesAreSo) (b : Base) (setting
           makers = whole
               ∙ whole_flags b.jobs.jobs (is_told_whole (seen_now b) (map (directories_of (known_now b) (seen_now b)) b.jobs.jobs)) b.jobs.makers makers given.whole agree_now.made
               ∙ ap (λ (w : Wholes). w.makers) told_wholes.1;
-          reasons = ap lent reasons ∙ given.reasons ∙ reasons_are counted_now settings (progress_of b) b.jobs none (facts_now settings b) are;
-          forced = forced ∙ given.forced ∙ forced_are counted_now settings (progress_of b) b.jobs none (facts_now settings b) are;
+          own =
+              coe 0 1 (i. FitOwn (sym own i) (reasons_are counted_now settings (progress_of b) b.jobs none (facts_now settings b) are i)) given.own;
           running = running ∙ sym (running_are b settings.targets counted_now settings given.sound given.named agrees.served);
         };
         begun = has ∙ sym (begun_are b settings.targets given.sound given.named agrees.served);
         doubted = given.doubted;
       }
+
+  -- the reasons of the definitions are those of the folder as it counts now, and so it is with the jobs that are forced
+  pub told_here :
+      (texts : list_all has_path_texts b.jobs.jobs ≡ true) →
+      (own_now settings b ≡ reasons_at (judging_of counted_now settings b) b.jobs) × (forced_now settings b ≡ forced_at (judging_of counted_now settings b) b.jobs)
+  told_here texts =
+      let are : AllZip (AreFactsOf counted_now settings (begun_in b.jobs.jobs b.phases) (with_states b.jobs [])) b.jobs.jobs (facts_now settings b) =
+      facts_law counted_now settings (begun_in b.jobs.jobs b.phases) (with_states b.jobs []) b.jobs (known_now b)
+      (seen_now b) agree_now.stored agree_now.sighted agree_now.summed
+      agree_now.recorded agree_now.read texts
+      in let none = unmarked image settings (progress_of b) b.jobs (known_now b) (seen_now b) agrees (left_now b) in (
+        reasons_are counted_now settings (progress_of b) b.jobs none (facts_now settings b) are,
+        forced_are counted_now settings (progress_of b) b.jobs none (facts_now settings b) are,
+      )
 
   -- what is told of the folder as it counts now is told of the folder
   pub told_now : (told : Told) (held : Bool) → IsTold settings b told held counted_now → IsTold settings b told held image

@@ -15,3 +15,4 @@ pub mod Stepping
 pub mod Settled
 pub mod Installed
 pub mod Effects
+pub mod Learned

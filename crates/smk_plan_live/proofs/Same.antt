@@ -1,14 +1,12 @@
 -- What is told of jobs stays, but for what is told anew, where what is known and seen changes at the outputs of one job alone.
-use Rattle.std.proofs.Common.{◌≡◌, ℕ, zero, suc, ◌+◌, ◌<◌, Bool, true, false, not, ◌&&◌, ◌||◌, ◌==◌, List, [], ◌∷◌, ◌++◌, map, length, drop, Option, Some, None, refl, sym, ap, ap₂, subst, ◌∙◌, inl, inr, bytes_eq}
+use Rattle.std.proofs.Common.{◌≡◌, ℕ, zero, suc, Bool, true, false, not, ◌&&◌, ◌||◌, ◌==◌, List, [], ◌∷◌, ◌++◌, map, Option, Some, None, refl, sym, ap, ap₂, subst, ◌∙◌, inl, inr, bytes_eq}
 use Rattle.std.specs.Prelude.{if◌then◌else◌, is_some, ◌⊎◌}
 use Rattle.std.specs.List.{list_any, flat_map}
 use Rattle.std.specs.Option.{option_or}
-use Rattle.std.proofs.lemmas.List.{drop_more, map-append}
-use Rattle.std.proofs.Math.ListN.{get_or}
+use Rattle.std.proofs.lemmas.List.{map-append}
 use Rattle.std.proofs.lemmas.Bool.{eq-eqb, or_parts}
 use Rattle.std.proofs.lemmas.List.Folds.{list_any-append}
 use Rattle.std.proofs.lemmas.Option.{same_Some}
-use Rattle.smk_choose.proofs.Listed.{map_map}
 use Rattle.smk_base.specs.Path.{is_under, is_at_or_under, overlaps}
 use Rattle.smk_base.proofs.Places.{same_place, place_itself}
 use Rattle.smk_base.proofs.Under.{never_both, false_unless, or_first, or_second, or_cases, at_itself, at_when_under, both_true}
@@ -20,11 +18,8 @@ use Rattle.smk_world.specs.declared.recipe.Recipe.{Recipe}
 use Rattle.smk_world.specs.World.{in_paths, out_paths, folders_above}
 use Rattle.smk_world.specs.Trees.{Path, Each, among, outs_of}
 use Rattle.smk_record.specs.declared.record.Stamp.{Stamp}
-use Rattle.smk_record.specs.Records.{is_valid}
 use Rattle.smk_flow.specs.declared.job.Job.{Job}
 use Rattle.smk_store.specs.declared.store.Entry.{Entry}
-use Rattle.smk_store.specs.declared.store.Kept.{Kept}
-use Rattle.smk_store.specs.declared.store.Kept.TheVariants.{Absent, Unreadable, Held}
 use Rattle.smk_store.specs.Images.{readable}
 use Rattle.smk_store.specs.Stores.{Known, entry_of}
 use Rattle.smk_plan.specs.declared.seen.Sight.{Sight}
@@ -36,7 +31,7 @@ use Rattle.smk_plan_facts.proofs.Tests.{map_each, each_of}
 use Rattle.smk_plan_states.specs.Served.{AreApart, outputs_of}
 use Rattle.smk_plan_table.specs.declared.suspects.Suspect.{Suspect}
 use Rattle.smk_plan_table.specs.Parts.{IsSuspectOf, is_guarded_in, is_marked_in}
-use Rattle.smk_plan_live.specs.Same.{paths_in, is_over, is_user, AreSameBut, restamp, restamped, user_facts}
+use Rattle.smk_plan_live.specs.Same.{paths_in, is_over, is_user, AreSameBut}
 
 -- ## Lists
 
@@ -91,65 +86,6 @@ over_at (o ∷ outs) q p at h = go (or_cases (bytes_eq p o.path) (among (paths_i
 -- what a path lies at or under is none of the outputs, where it lies at or under none
 free_at : (outs : List Out) (q p : Path) → is_over outs q ≡ false → is_at_or_under q p ≡ true → among (paths_in outs) p ≡ false
 free_at outs q p free at = false_unless (among (paths_in outs) p) (λ e. never_both (is_over outs q) (over_at outs q p at e) free)
-
--- ## Copies
-
-copied_twice : (k : Kept) → copied (copied k) ≡ copied k
-copied_twice Absent = refl
-copied_twice Unreadable = refl
-copied_twice (Held r) = go (is_valid r) refl
-  where
-    go : (b : Bool) → is_valid r ≡ b → copied (if b then Held r else Unreadable) ≡ (if b then Held r else Unreadable)
-    go true e = ap (λ b. if b then Held r else Unreadable) e
-    go false e = refl
-
--- ## Stamps of several lists of paths
-
-append_again : {A : Type 0} (xs ys zs : List A) → (xs ++ ys) ++ zs ≡ xs ++ (ys ++ zs)
-append_again [] ys zs = refl
-append_again (x ∷ xs) ys zs = ap (λ rest. x ∷ rest) (append_again xs ys zs)
-
-module _ (known : List Known) (seen : List Sight) (told : Path → Bool) (outs : List Out) where
-  restamped_none : (ps : List Path) → restamped known seen told outs ps [] ≡ []
-  restamped_none [] = refl
-  restamped_none (p ∷ ps) = refl
-
-  restamped_append :
-      (ps qs : List Path) (ss : List (Option Stamp)) →
-      restamped known seen told outs (ps ++ qs) ss ≡ restamped known seen told outs ps ss ++ restamped known seen told outs qs (drop (length ps) ss)
-  restamped_append [] qs ss = refl
-  restamped_append (p ∷ ps) qs [] = sym (restamped_none qs)
-  restamped_append (p ∷ ps) qs (s ∷ ss) = ap (λ rest. restamp known seen told outs p s ∷ rest) (restamped_append ps qs ss)
-
-  -- once the stamps of the first paths were added, those of the others are left
-  restamped_step :
-      (found new : List (Option Stamp)) (ps qs : List Path) (rest after whole : List (Option Stamp)) →
-      new ≡ found ++ restamped known seen told outs ps rest →
-      after ≡ drop (length ps) rest →
-      found ++ restamped known seen told outs (ps ++ qs) rest ≡ whole →
-      new ++ restamped known seen told outs qs after ≡ whole
-  restamped_step found new ps qs rest after whole added dropped all =
-      ap₂ (λ f a. f ++ restamped known seen told outs qs a) added dropped
-      ∙ append_again found (restamped known seen told outs ps rest) (restamped known seen told outs qs (drop (length ps) rest))
-      ∙ ap (λ ss. found ++ ss) (sym (restamped_append ps qs rest)) ∙ all
-
-  -- the same where the paths are those of an item, and the others those of the items behind it
-  pub restamped_item :
-      (found new : List (Option Stamp)) (items : List Item) (i : ℕ) (item : Item) (ps : List Path) (rest after whole : List (Option Stamp)) →
-      i < length items →
-      item ≡ get_or items i item →
-      ps ≡ item.paths →
-      new ≡ found ++ restamped known seen told outs ps rest →
-      after ≡ drop (length ps) rest →
-      found ++ restamped known seen told outs (flat_map (λ (x : Item). x.paths) (drop i items)) rest ≡ whole →
-      new ++ restamped known seen told outs (flat_map (λ (x : Item). x.paths) (drop (i + 1) items)) after ≡ whole
-  restamped_item found new items i item ps rest after whole below is paths added dropped all =
-      let more = flat_map (λ (x : Item). x.paths) (drop (i + 1) items) in
-      let split : drop i items ≡ item ∷ drop (i + 1) items = drop_more items i item below ∙ ap (λ (x : Item). x ∷ drop (i + 1) items) (sym is) in
-      let here : found ++ restamped known seen told outs (ps ++ more) rest ≡ found ++ restamped known seen told outs (flat_map (λ (x : Item). x.paths) (drop i items)) rest =
-      ap (λ qs. found ++ restamped known seen told outs (qs ++ more) rest) paths
-      ∙ ap (λ (xs : List Item). found ++ restamped known seen told outs (flat_map (λ (x : Item). x.paths) xs) rest) (sym split) in
-      restamped_step found new ps more rest after whole added dropped (here ∙ all)
 
 -- ## What stays
 
@@ -231,38 +167,6 @@ module _ (outs : List Out) (old new : List Known) (saw sees : List Sight) (same 
       let marks = marks_stay k other in
       let stamps = stamps_stay k free in
       λ i. record { recipe = k.recipe; kept = kept i; marked = marks i; stamps = stamps i; forced = forced k }
-
-  -- ## Stamps told anew
-
-  restamp_is : (q : Path) → restamp new sees told outs q (stamp_in old saw told q) ≡ stamp_in new sees told q
-  restamp_is q = go (is_over outs q) refl
-    where
-      go : (b : Bool) → is_over outs q ≡ b → (if b then stamp_in new sees told q else stamp_in old saw told q) ≡ stamp_in new sees told q
-      go true e = refl
-      go false e = sym (stamp_same q e)
-
-  pub restamped_are : (ps : List Path) → restamped new sees told outs ps (map (stamp_in old saw told) ps) ≡ map (stamp_in new sees told) ps
-  restamped_are [] = refl
-  restamped_are (q ∷ ps) = ap₂ (λ s ss. s ∷ ss) (restamp_is q) (restamped_are ps)
-
-  copies_are : (k : Job) → map copied (flat_map (λ (item : OutItem). map (copied_at old) item.outs) k.recipe.outputs) ≡ flat_map (λ (item : OutItem). map (copied_at old) item.outs) k.recipe.outputs
-  copies_are k =
-      ap (map copied) (by_outs (copied_at old) k.recipe) ∙ map_map copied (copied_at old) (outs_of k.recipe)
-      ∙ (λ i. map (λ (o : Out). copied_twice (kept_of (entry_of old o.path)) i) (outs_of k.recipe))
-      ∙ sym (by_outs (copied_at old) k.recipe)
-
-  -- the facts of a job that makes none of the outputs, with stamps told anew
-  pub user_same :
-      (forced after : Job → Bool) (k : Job) → IsOther k → after k ≡ forced k →
-      user_facts new sees told outs (facts_in old saw told forced k) ≡ facts_in new sees told after k
-  user_same forced after k other force =
-      let kept = copies_are k ∙ sym (kept_stays k other) in
-      let marks = sym (marks_stay k other) in
-      let stamps =
-      ap (restamped new sees told outs (in_paths k.recipe)) (stamps_by (stamp_in old saw told) k.recipe)
-      ∙ restamped_are (in_paths k.recipe) ∙ sym (stamps_by (stamp_in new sees told) k.recipe) in
-      let flag = sym force in
-      λ i. record { recipe = k.recipe; kept = kept i; marked = marks i; stamps = stamps i; forced = flag i }
 
   -- ## What is whole
 

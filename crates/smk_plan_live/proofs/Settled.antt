@@ -1,55 +1,36 @@
 -- What is told anew once what is known and seen has changed at the outputs of one job.
-use Rattle.std.proofs.Common.{◌≡◌, ◌⊎◌, inl, inr, ℕ, zero, suc, ◌+◌, Bool, true, false, ◌||◌, ◌==◌, List, [], ◌∷◌, ◌++◌, map, length, Option, Some, None, refl, sym, ap, subst, ◌∙◌, arith}
+use Rattle.std.proofs.Common.{◌≡◌, ℕ, zero, suc, ◌+◌, Bool, true, false, ◌==◌, List, [], ◌∷◌, ◌++◌, map, Option, Some, None, refl, sym, ap, subst, ◌∙◌, arith}
 use Rattle.std.specs.Prelude.{if◌then◌else◌, option_map, slice_set}
-use Rattle.std.specs.List.{list_any, flat_map, slice_get, AllZip}
+use Rattle.std.specs.List.{list_any, slice_get, AllZip}
 use Rattle.std.specs.Option.{option_and_then}
 use Rattle.std.proofs.lemmas.Bool.{eqb-true, eqb-false, eq-eqb}
-use Rattle.std.proofs.lemmas.List.{length-map}
 use Rattle.std.proofs.lemmas.Option.{same_Some, none-some}
-use Rattle.smk_base.proofs.Under.{never_both, or_first, or_second, or_cases}
+use Rattle.smk_base.proofs.Under.{or_first, or_second}
 use Rattle.smk_world.specs.declared.recipe.Out.{Out}
 use Rattle.smk_world.specs.World.{out_paths}
-use Rattle.smk_world.specs.Trees.{Path, Each, among, outs_of}
+use Rattle.smk_world.specs.Trees.{Path, Each, among}
 use Rattle.smk_flow.specs.declared.job.Job.{Job}
 use Rattle.smk_store.specs.Stores.{Known}
 use Rattle.smk_chain.specs.declared.jobs.Maker.{Maker}
-use Rattle.smk_trigger.specs.declared.facts.JobFacts.{JobFacts}
-use Rattle.smk_trigger.specs.declared.reason.Reason.{Reason}
-use Rattle.smk_trigger.specs.Reasons.{reasons_of}
 use Rattle.smk_plan.specs.declared.seen.Sight.{Sight}
 use Rattle.smk_plan.specs.States.{test_some}
 use Rattle.smk_plan.specs.Sights.{job_at}
 use Rattle.smk_plan_facts.specs.Facts.{IsMade}
-use Rattle.smk_plan_facts.specs.Telling.{directories_of, facts_in, flags_but, is_made_in, is_made_of, is_number, is_told_whole, makers_in, nth, outputs_in}
+use Rattle.smk_plan_facts.specs.Telling.{directories_of, flags_but, is_made_in, is_made_of, is_number, is_told_whole, makers_in, nth, outputs_in}
 use Rattle.smk_plan_facts.proofs.WholesTold.{nth_map}
 use Rattle.smk_plan_table.specs.declared.suspects.Suspect.{Suspect}
 use Rattle.smk_plan_live.specs.declared.base.Base.{Base}
-use Rattle.smk_plan_live.specs.declared.renewing.Renewed.{Renewed}
 use Rattle.smk_plan_live.specs.Now.{known_now, seen_now}
-use Rattle.smk_plan_live.specs.Same.{paths_in, is_user, AreSameBut, put_each, user_facts, renewed, user_news, reader_news, all_news, numbered_facts, numbered_reasons, users_from}
+use Rattle.smk_plan_live.specs.Same.{paths_in, is_user, AreSameBut, users_from}
 use Rattle.smk_plan_live.specs.Lives.{AreMakersWhole}
-use Rattle.smk_plan_live.proofs.Putting.{each_joined, is_numbered, mapped_at, put_are, put_one}
+use Rattle.smk_plan_live.proofs.Putting.{put_one}
 use Rattle.smk_plan_live.proofs.Restoring.{at_same}
-use Rattle.smk_plan_live.proofs.Same.{facts_same, user_same, outputs_same, made_same}
+use Rattle.smk_plan_live.proofs.Same.{outputs_same, made_same}
 
--- ## News
-
-numbered_first : {A B : Type 0} (g : A → ℕ × B) (xs ys : List A) (m : ℕ) → is_numbered (map g xs) m ≡ true → is_numbered (map g (xs ++ ys)) m ≡ true
-numbered_first g [] ys m h = absurd (never_both false h refl)
-numbered_first {B = B} g (x ∷ xs) ys m h = go (or_cases ((g x).0 == m) (is_numbered (map g xs) m) h) (numbered_first g xs ys m)
-  where
-    go :
-        (((g x).0 == m) ≡ true) ⊎ (is_numbered (map g xs) m ≡ true) → (is_numbered (map g xs) m ≡ true → is_numbered (map g (xs ++ ys)) m ≡ true) →
-        ((g x).0 == m || is_numbered (map g (xs ++ ys)) m) ≡ true
-    go (inl e) more = or_first ((g x).0 == m) (is_numbered (map g (xs ++ ys)) m) e
-    go (inr e) more = or_second ((g x).0 == m) (is_numbered (map g (xs ++ ys)) m) (more e)
-
-numbered_last : {A B : Type 0} (g : A → ℕ × B) (xs ys : List A) (m : ℕ) → is_numbered (map g ys) m ≡ true → is_numbered (map g (xs ++ ys)) m ≡ true
-numbered_last g [] ys m h = h
-numbered_last g (x ∷ xs) ys m h = or_second ((g x).0 == m) (is_numbered (map g (xs ++ ys)) m) (numbered_last g xs ys m h)
+-- ## Readers
 
 -- a user is among the users
-user_at :
+pub user_at :
     (outs : List Out) (i : ℕ) (jobs : List Job) (m : ℕ) (k : Job) → slice_get jobs m ≡ Some k → is_user outs k ≡ true →
     list_any (λ (x : ℕ). x == i + m) (users_from outs i jobs) ≡ true
 user_at outs i [] m k at reads = absurd (none-some k at)
@@ -70,134 +51,6 @@ user_at outs i (x ∷ jobs) (suc m) k at reads = go (is_user outs x) (user_at ou
     go false more =
         let step : suc i + m ≡ i + suc m = omega arith in
         subst (λ (s : ℕ). list_any (λ (y : ℕ). y == s) (users_from outs (suc i) jobs) ≡ true) step more
-
--- the reasons by the facts that are new
-abbrev pub judged : Renewed → ℕ × List Reason
-judged r = (r.number, reasons_of r.facts)
-
--- the reasons of what is new are by its facts
-pub reasons_are :
-    (known : List Known) (seen : List Sight) (told : Path → Bool) (forced : Bool) (n : ℕ) (j : Job) (facts : List JobFacts) (readers : List ℕ) →
-    map numbered_reasons (all_news known seen told forced n j facts readers) ≡ map judged (all_news known seen told forced n j facts readers)
-reasons_are known seen told forced n j facts [] = refl
-reasons_are known seen told forced n j facts (m ∷ readers) = go (m == n) (slice_get facts m) (reasons_are known seen told forced n j facts readers)
-  where
-    go :
-        (b : Bool) (o : Option JobFacts) → map numbered_reasons (all_news known seen told forced n j facts readers) ≡ map judged (all_news known seen told forced n j facts readers) →
-        map numbered_reasons
-        (((if b then [] else user_news known seen told (outs_of j.recipe) m o) ++ flat_map (reader_news known seen told (outs_of j.recipe) n facts) readers)
-        ++ renewed n (facts_in known seen told (λ x. forced) j) ∷ [])
-        ≡ map judged
-        (((if b then [] else user_news known seen told (outs_of j.recipe) m o) ++ flat_map (reader_news known seen told (outs_of j.recipe) n facts) readers)
-        ++ renewed n (facts_in known seen told (λ x. forced) j) ∷ [])
-    go true o more = more
-    go false None more = more
-    go false (Some f) more = ap (λ (rs : List (ℕ × List Reason)). judged (renewed m (user_facts known seen told (outs_of j.recipe) f)) ∷ rs) more
-
-module _
-    (outs : List Out) (old new : List Known) (saw sees : List Sight) (same : AreSameBut outs old new saw sees) (told : Path → Bool)
-    (before after : Job → Bool) (n : ℕ) (jobs : List Job) (facts : List JobFacts) (were : facts ≡ map (facts_in old saw told before) jobs)
-    (others : (m : ℕ) (k : Job) → (m ≡ n → ⊥) → slice_get jobs m ≡ Some k → Each (λ q. among (paths_in outs) q ≡ false) (out_paths k.recipe) × (after k ≡ before k)) where
-  abbrev IsFresh : ℕ × JobFacts → Type 0
-  IsFresh e = (k : Job) → slice_get jobs e.0 ≡ Some k → e.1 ≡ facts_in new sees told after k
-
-  fresh_user : (m : ℕ) → Each IsFresh (map numbered_facts (reader_news new sees told outs n facts m))
-  fresh_user m = go (m == n) refl (slice_get facts m) refl
-    where
-      go : (b : Bool) → (m == n) ≡ b → (o : Option JobFacts) → slice_get facts m ≡ o → Each IsFresh (map numbered_facts (if b then [] else user_news new sees told outs m o))
-      go true e o at = tt
-      go false e None at = tt
-      go false e (Some f) at = (
-        (λ k here.
-            let other = others m k (eqb-false m n e) here in
-            let had : f ≡ facts_in old saw told before k =
-            same_Some f (facts_in old saw told before k)
-            (sym at ∙ ap (λ (fs : List JobFacts). slice_get fs m) were ∙ mapped_at (facts_in old saw told before) jobs m k here) in
-            ap (user_facts new sees told outs) had ∙ user_same outs old new saw sees same told before after k other.0 other.1),
-        tt,
-      )
-
-  fresh_users : (readers : List ℕ) → Each IsFresh (map numbered_facts (flat_map (reader_news new sees told outs n facts) readers))
-  fresh_users [] = tt
-  fresh_users (m ∷ readers) =
-      each_joined IsFresh numbered_facts (reader_news new sees told outs n facts m) (flat_map (reader_news new sees told outs n facts) readers) (fresh_user m)
-      (fresh_users readers)
-
-  covered_one : (m : ℕ) (k : Job) → slice_get jobs m ≡ Some k → (m ≡ n → ⊥) → is_numbered (map numbered_facts (reader_news new sees told outs n facts m)) m ≡ true
-  covered_one m k at other = go (m == n) refl (slice_get facts m) refl
-    where
-      there : slice_get facts m ≡ Some (facts_in old saw told before k)
-      there = ap (λ (fs : List JobFacts). slice_get fs m) were ∙ mapped_at (facts_in old saw told before) jobs m k at
-
-      go :
-          (b : Bool) → (m == n) ≡ b → (o : Option JobFacts) → slice_get facts m ≡ o →
-          is_numbered (map numbered_facts (if b then [] else user_news new sees told outs m o)) m ≡ true
-      go true e o had = absurd (other (eqb-true m n e))
-      go false e None had = absurd (none-some (facts_in old saw told before k) (sym had ∙ there))
-      go false e (Some f) had = or_first (m == m) false (eq-eqb m m refl)
-
-  covered :
-      (m : ℕ) (k : Job) → slice_get jobs m ≡ Some k → (m ≡ n → ⊥) → (readers : List ℕ) → list_any (λ (x : ℕ). x == m) readers ≡ true →
-      is_numbered (map numbered_facts (flat_map (reader_news new sees told outs n facts) readers)) m ≡ true
-  covered m k at other [] h = absurd (never_both false h refl)
-  covered m k at other (x ∷ readers) h =
-      go (or_cases (x == m) (list_any (λ (y : ℕ). y == m) readers) h) (covered m k at other readers)
-    where
-      go :
-          ((x == m) ≡ true) ⊎ (list_any (λ (y : ℕ). y == m) readers ≡ true) →
-          (list_any (λ (y : ℕ). y == m) readers ≡ true → is_numbered (map numbered_facts (flat_map (reader_news new sees told outs n facts) readers)) m ≡ true) →
-          is_numbered (map numbered_facts (reader_news new sees told outs n facts x ++ flat_map (reader_news new sees told outs n facts) readers)) m ≡ true
-      go (inl e) more =
-          numbered_first numbered_facts (reader_news new sees told outs n facts x) (flat_map (reader_news new sees told outs n facts) readers) m
-          (subst (λ (y : ℕ). is_numbered (map numbered_facts (reader_news new sees told outs n facts y)) m ≡ true) (sym (eqb-true x m e)) (covered_one m k at other))
-      go (inr e) more =
-          numbered_last numbered_facts (reader_news new sees told outs n facts x) (flat_map (reader_news new sees told outs n facts) readers) m (more e)
-
-  abbrev users : List Renewed
-  users = flat_map (reader_news new sees told outs n facts) (users_from outs 0 jobs)
-
-  module _ (flag : Bool) (j : Job) (at : slice_get jobs n ≡ Some j) (flagged : after j ≡ flag) where
-    abbrev own : List Renewed
-    own = renewed n (facts_in new sees told (λ x. flag) j) ∷ []
-
-    -- the facts of the job are those of now, or are told anew
-    abbrev IsTold : ℕ → Job → Type 0
-    IsTold m k = (slice_get facts m ≡ Some (facts_in new sees told after k)) ⊎ (is_numbered (map numbered_facts (users ++ own)) m ≡ true)
-
-    stays : (m : ℕ) (k : Job) → slice_get jobs m ≡ Some k → (m ≡ n → ⊥) → is_user outs k ≡ false → slice_get facts m ≡ Some (facts_in new sees told after k)
-    stays m k here other free =
-        let o = others m k other here in
-        ap (λ (fs : List JobFacts). slice_get fs m) were ∙ mapped_at (facts_in old saw told before) jobs m k here
-        ∙ ap Some (sym (facts_same outs old new saw sees same told before k free o.0) ∙ ap (λ b. facts_in new sees told (λ x. b) k) (sym o.1))
-
-    by_use : (m : ℕ) (k : Job) → slice_get jobs m ≡ Some k → (m ≡ n → ⊥) → (b : Bool) → is_user outs k ≡ b → IsTold m k
-    by_use m k here other true reads =
-        let whole : 0 + m ≡ m = omega arith in
-        inr
-        (numbered_first numbered_facts users own m
-        (covered m k here other (users_from outs 0 jobs)
-        (subst (λ (s : ℕ). list_any (λ (x : ℕ). x == s) (users_from outs 0 jobs) ≡ true) whole (user_at outs 0 jobs m k here reads))))
-    by_use m k here other false free = inl (stays m k here other free)
-
-    by_number : (m : ℕ) (k : Job) → slice_get jobs m ≡ Some k → (b : Bool) → (m == n) ≡ b → IsTold m k
-    by_number m k here true e = inr (numbered_last numbered_facts users own m (or_first (n == m) false (eq-eqb n m (sym (eqb-true m n e)))))
-    by_number m k here false e = by_use m k here (eqb-false m n e) (is_user outs k) refl
-
-    fresh_own : Each IsFresh (map numbered_facts own)
-    fresh_own = (
-      (λ k here.
-          let is : j ≡ k = same_Some j k (sym at ∙ here) in
-          ap (λ (x : Job). facts_in new sees told (λ y. flag) x) is ∙ ap (λ b. facts_in new sees told (λ y. b) k) (sym flagged ∙ ap after is)),
-      tt,
-    )
-
-    -- with what is told anew the facts are those of now
-    pub news_are : put_each facts (map numbered_facts (users ++ own)) ≡ map (facts_in new sees told after) jobs
-    news_are =
-        put_are (facts_in new sees told after) jobs facts (map numbered_facts (users ++ own))
-        (ap length were ∙ length-map jobs (facts_in old saw told before))
-        (each_joined IsFresh numbered_facts users own (fresh_users (users_from outs 0 jobs)) fresh_own)
-        (λ m k here. by_number m k here (m == n) refl)
 
 -- ## Flags
 

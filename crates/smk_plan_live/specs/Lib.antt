@@ -1,13 +1,14 @@
 pub mod Phases
-pub mod Kept
-pub mod Live
 pub mod Sites
 pub mod Readers
 pub mod Now
+pub mod Kept
+pub mod Learning
 pub mod Same
 pub mod Carried
 pub mod Agreeing
 pub mod Commands
+pub mod Live
 pub mod Lives
 pub mod Changes
 pub mod Steps

@@ -2,8 +2,6 @@
 use Rattle.std.specs.Prelude.{Bool, List, ℕ, Vec}
 use Rattle.std.proofs.Common.{Global}
 use Rattle.smk_chain.specs.Derive.{Listings}
-use Rattle.smk_trigger.specs.declared.facts.JobFacts.{JobFacts}
-use Rattle.smk_trigger.specs.declared.reason.Reason.{Reason}
 use Rattle.smk_pick.specs.declared.settings.Settings.{Settings}
 use Rattle.smk_plan.specs.declared.plan.Plan.{Plan}
 use Rattle.smk_plan_states.specs.declared.standing.Ranking.{Ranking}
@@ -11,14 +9,12 @@ use Rattle.smk_plan_states.specs.declared.table.Table.{Table}
 use Rattle.smk_plan_states.specs.Standing.{states_by}
 use Rattle.smk_plan_live.specs.declared.base.Base.{Base}
 use Rattle.smk_plan_live.specs.declared.flags.Flags.{Flags}
-use Rattle.smk_plan_live.specs.Kept.{told_kept}
+use Rattle.smk_plan_live.specs.Kept.{told_by_flags}
 
 -- The parts of the plan, and the plan itself: its states aren't kept, but come of the ranks.
 pub record LivePlan : Type 0 where
   pub base : Base
   pub settings : Settings
-  pub facts : Vec JobFacts Global
-  pub reasons : Vec (List Reason) Global
   pub plan : Plan
   pub ranking : Ranking
   pub held : Bool
@@ -28,20 +24,17 @@ pub record LivePlan : Type 0 where
   pub commanded : Bool
 
 -- the plan by what is kept
-abbrev pub plan_kept : Base → List JobFacts → List (List Reason) → Ranking → List Bool → Listings → Table → Flags → Plan
-plan_kept base facts reasons ranking current known table flags =
-    record { states = states_by table (told_kept flags reasons facts base.began) ranking; current = current; known = known }
+abbrev pub plan_kept : Base → Ranking → List Bool → Listings → Table → Flags → Plan
+plan_kept base ranking current known table flags =
+    record { states = states_by table (told_by_flags base flags.outputs flags.makers flags.forced) ranking; current = current; known = known }
 
 -- what is kept, as contracts see it
-abbrev pub seen_as :
-    Base → Settings → Vec JobFacts Global → Vec (List Reason) Global → Ranking → List Bool → Listings → Bool → Table → Flags → Vec (List ℕ) Global → Bool → LivePlan
-seen_as base settings facts reasons ranking current known held table flags readers commanded =
+abbrev pub seen_as : Base → Settings → Ranking → List Bool → Listings → Bool → Table → Flags → Vec (List ℕ) Global → Bool → LivePlan
+seen_as base settings ranking current known held table flags readers commanded =
     record {
       base = base;
       settings = settings;
-      facts = facts;
-      reasons = reasons;
-      plan = plan_kept base facts.items reasons.items ranking current known table flags;
+      plan = plan_kept base ranking current known table flags;
       ranking = ranking;
       held = held;
       table = table;
@@ -52,5 +45,4 @@ seen_as base settings facts reasons ranking current known held table flags reade
 
 -- the same, were this its base
 abbrev pub on_base : LivePlan → Base → LivePlan
-on_base p base =
-    record p { base = base; plan = plan_kept base p.facts.items p.reasons.items p.ranking p.plan.current p.plan.known p.table p.flags }
+on_base p base = record p { base = base; plan = plan_kept base p.ranking p.plan.current p.plan.known p.table p.flags }

@@ -6,23 +6,22 @@ use Rattle.std.specs.BTreeSet.{contains_text}
 use Rattle.smk_world.specs.Trees.{Path, Each, among}
 use Rattle.smk_flow.specs.declared.job.Job.{Job}
 use Rattle.smk_store.specs.Images.{Image}
-use Rattle.smk_trigger.specs.declared.facts.JobFacts.{JobFacts}
 use Rattle.smk_trigger.specs.declared.reason.State.{State}
-use Rattle.smk_trigger.specs.Reasons.{reasons_of}
 use Rattle.smk_pick.specs.declared.settings.Settings.{Settings}
 use Rattle.smk_plan.specs.declared.plan.Plan.{Plan as Told}
 use Rattle.smk_plan.specs.declared.fault.PlanFault.{PlanFault}
 use Rattle.smk_plan.specs.declared.wholes.Wholes.{Wholes}
 use Rattle.smk_plan.specs.States.{Progress, test_some}
 use Rattle.smk_plan_facts.specs.Facts.{told_sources, IsMade}
-use Rattle.smk_plan_facts.specs.Telling.{facts_in, forced_by, has_path_texts, IsSorted, directories_of, is_told_whole, outputs_in, wholes_in}
+use Rattle.smk_plan_facts.specs.Telling.{has_path_texts, IsSorted, directories_of, is_told_whole, outputs_in, wholes_in}
 use Rattle.smk_plan_states.specs.declared.standing.Last.{Last}
 use Rattle.smk_plan_states.specs.declared.standing.Ranking.{Ranking}
+use Rattle.smk_plan_states.specs.declared.rows.Own.{Own}
 use Rattle.smk_plan_states.specs.declared.table.Table.{Table}
 use Rattle.smk_plan_states.specs.Ranks.{rank_of}
 use Rattle.smk_plan_states.specs.Served.{AreServed}
 use Rattle.smk_plan_states.specs.Judged.{Judging, any_held_back}
-use Rattle.smk_plan_states.specs.Rows.{lent}
+use Rattle.smk_plan_states.specs.Rows.{FitOwn, lent}
 use Rattle.smk_plan_states.specs.Standing.{FollowsBy, StandsBy}
 use Rattle.smk_plan_states.specs.Stays.{Told as TellsRows}
 use Rattle.smk_plan_states.specs.Tables.{IsTableOf}
@@ -32,12 +31,12 @@ use Rattle.smk_plan_table.specs.Plans.{HasMadeAt, IsRefusedAt}
 use Rattle.smk_plan_live.specs.declared.base.Base.{Base}
 use Rattle.smk_plan_live.specs.declared.flags.Flags.{Flags}
 use Rattle.smk_plan_live.specs.declared.lending.Lent.{Lent}
-use Rattle.smk_plan_live.specs.Kept.{told_kept, told_lent}
+use Rattle.smk_plan_live.specs.Kept.{forced_now, own_now, told_by_flags, told_lent}
 use Rattle.smk_plan_live.specs.Live.{LivePlan}
 use Rattle.smk_plan_live.specs.Agreeing.{AgreesNow}
 use Rattle.smk_plan_live.specs.Carried.{has_name}
 use Rattle.smk_plan_live.specs.Commands.{has_command}
-use Rattle.smk_plan_live.specs.Phases.{begun_in, has_begun, progress_in}
+use Rattle.smk_plan_live.specs.Phases.{has_begun, progress_in}
 use Rattle.smk_plan_live.specs.Sites.{site_in}
 use Rattle.smk_plan_live.specs.Same.{readers_of}
 use Rattle.smk_plan_live.specs.Now.{known_now, seen_now}
@@ -49,11 +48,6 @@ progress_of b = progress_in b.jobs.jobs b.phases b.began
 -- what the jobs are judged by in the image now
 abbrev pub judging_of : Image → Settings → Base → Judging
 judging_of image settings b = record { image = image; settings = settings; progress = progress_of b }
-
--- what the jobs are judged by: what is known and was seen now
-abbrev pub facts_now : Settings → Base → List JobFacts
-facts_now settings b =
-    map (facts_in (known_now b) (seen_now b) (among (told_sources b.jobs.makers)) (forced_by settings (begun_in b.jobs.jobs b.phases))) b.jobs.jobs
 
 -- The folder has what is known and was seen now, while the children of the jobs that have begun and aren't closed run.
 abbrev pub IsAgreed : Image → Settings → Base → Type 0
@@ -98,42 +92,44 @@ AreMakersWhole b flags =
     (λ m f. IsMade b.jobs.jobs m → f ≡ is_told_whole (seen_now b) (map (directories_of (known_now b) (seen_now b)) b.jobs.jobs) m)
     b.jobs.makers flags
 
--- What is kept as flags is so by what is known and was seen now: what is whole, and of which jobs nothing is refused.
+-- What is kept as flags is so by what is known and was seen now: what is whole, of which jobs nothing is refused, which have reasons of their own, where that is told, and
+-- which are forced.
 pub record AreFlagsNow (settings : Settings) (b : Base) (flags : Flags) : Type 0 where
   pub outputs : flags.outputs ≡ map (outputs_in (known_now b) (seen_now b)) b.jobs.jobs
   pub makers : AreMakersWhole b flags.makers
   pub suspects : AllZip (IsSuspectOf (known_now b) (seen_now b) settings.bounds) b.jobs.jobs flags.suspects
+  pub own : FitOwn flags.own (own_now settings b)
+  pub forced : flags.forced ≡ forced_now settings b
 
 -- Each job that has begun, and each whose child runs, has an output to be named by.
 pub record AreNamed (b : Base) : Type 0 where
   pub begun : (n : ℕ) (j : Job) → slice_get b.jobs.jobs n ≡ Some j → test_some has_begun (slice_get b.phases n) ≡ true → has_name j ≡ true
   pub running : (n : ℕ) (j : Job) (s : State) → slice_get b.jobs.jobs n ≡ Some j → slice_get b.began n ≡ Some (Some s) → has_name j ≡ true
 
--- What is lent of the jobs is so by what is known and was seen now: which outputs, and which of the makers' paths, are whole, their reasons and which are forced;
--- and nothing is refused of them that isn't suspected.
-pub record AreLentNow (settings : Settings) (b : Base) (rows : Lent) (makers : List Bool) (suspects : List Suspect) : Type 0 where
+-- What is lent of the jobs is so by what is known and was seen now: which outputs, and which of the makers' paths, are whole, and which have reasons of their own, where that is
+-- told; and nothing is refused of them that isn't suspected.
+pub record AreLentNow (settings : Settings) (b : Base) (rows : Lent) (makers : List Bool) (flags : List Own) (suspects : List Suspect) : Type 0 where
   pub sound : IsSound b
   pub named : AreNamed b
   pub texts : list_all has_path_texts b.jobs.jobs ≡ true
   pub outputs : lent rows.outputs.items ≡ map (outputs_in (known_now b) (seen_now b)) b.jobs.jobs
   pub whole : AreMakersWhole b makers
-  pub reasons : lent rows.reasons.items ≡ map reasons_of (facts_now settings b)
-  pub forced : rows.forced.items ≡ map (λ (f : JobFacts). f.forced) (facts_now settings b)
+  pub own : FitOwn flags (own_now settings b)
   pub doubted : AllZip (IsSuspectOf (known_now b) (seen_now b) settings.bounds) b.jobs.jobs suspects
 
 -- ## What is kept of ranks
 
 -- what was kept of the last plan, if anything, stood then, and what is told now differs from that by a step of one job
-abbrev pub FollowsLent : Settings → Base → Table → Lent → List Bool → Option Last → Type 0
-FollowsLent settings b table rows makers last = AreServed b.jobs settings.targets → FollowsBy table last (told_lent rows makers b.began)
+abbrev pub FollowsLent : Settings → Base → Table → Lent → List Bool → List Bool → Option Last → Type 0
+FollowsLent settings b table rows makers forced last = AreServed b.jobs settings.targets → FollowsBy table last (told_lent b rows makers forced)
 
--- what the plan tells of its jobs, where these run
-abbrev pub told_live : LivePlan → List (Option State) → TellsRows
-told_live p began = told_kept p.flags p.reasons.items p.facts.items began
+-- what the plan tells of its jobs
+abbrev pub told_live : LivePlan → TellsRows
+told_live p = told_by_flags p.base p.flags.outputs p.flags.makers p.flags.forced
 
--- its ranks are those by what it tells, where these run
-abbrev pub Stands : LivePlan → List (Option State) → Type 0
-Stands p began = StandsBy p.table (told_live p began) p.ranking
+-- its ranks are those by what it tells
+abbrev pub Stands : LivePlan → Type 0
+Stands p = StandsBy p.table (told_live p) p.ranking
 
 -- the ranks that are kept are those of its states, in each image that has what is known and was seen now
 abbrev pub AreRanked : Settings → Base → Ranking → Told → Type 0
@@ -148,13 +144,11 @@ pub record IsLive (p : LivePlan) : Type 0 where
   pub texts : list_all has_path_texts p.base.jobs.jobs ≡ true
   pub each : length p.plan.states ≡ length p.base.jobs.jobs
   pub targets : length p.plan.current ≡ length p.settings.targets
-  pub facts : AreServed p.base.jobs p.settings.targets → p.facts.items ≡ facts_now p.settings p.base
-  pub reasons : p.reasons.items ≡ map reasons_of p.facts.items
   pub now : IsNow p.settings p.base p.plan p.held
   pub table : IsTableOf p.base.jobs p.settings.targets p.table
   pub flags : AreServed p.base.jobs p.settings.targets → AreFlagsNow p.settings p.base p.flags
   pub readers : AreServed p.base.jobs p.settings.targets → p.readers.items ≡ readers_of p.base.jobs.jobs
-  pub standing : AreServed p.base.jobs p.settings.targets → Stands p p.base.began
+  pub standing : AreServed p.base.jobs p.settings.targets → Stands p
   pub ranked : AreRanked p.settings p.base p.ranking p.plan
   pub named : AreNamed p.base
   pub commands : p.commanded ≡ true → list_all (has_command p.settings.cores) p.base.jobs.jobs ≡ true

@@ -1,13 +1,10 @@
 -- What is told anew of a base: of all jobs, or once what is known and seen has changed at the outputs of one.
 use Rattle.std.specs.Prelude.{◌≡◌, ◌==◌, Bool, true, false, ℕ, List, [], map, length, slice_set, Option, Some, None}
 use Rattle.std.specs.List.{list_all, slice_get}
-use Rattle.std.specs.BTreeSet.{contains_text}
 use Rattle.smk_world.specs.Trees.{Path, outs_of}
 use Rattle.smk_world.specs.World.{out_paths}
 use Rattle.smk_flow.specs.declared.job.Job.{Job}
 use Rattle.smk_store.specs.declared.store.Entry.{Entry}
-use Rattle.smk_trigger.specs.declared.facts.JobFacts.{JobFacts}
-use Rattle.smk_trigger.specs.Reasons.{reasons_of}
 use Rattle.smk_trigger.specs.declared.reason.State.{State}
 use Rattle.smk_pick.specs.declared.settings.Settings.{Settings}
 use Rattle.smk_plan.specs.declared.seen.Sight.{Sight}
@@ -15,6 +12,7 @@ use Rattle.smk_plan_facts.specs.Telling.{flags_but, forced_by, has_path_texts, i
 use Rattle.smk_plan.specs.declared.plan.Plan.{Plan}
 use Rattle.smk_plan_states.specs.declared.standing.Last.{Last}
 use Rattle.smk_plan_states.specs.declared.standing.Ranking.{Ranking}
+use Rattle.smk_plan_states.specs.Rows.{FitOwn}
 use Rattle.smk_plan_states.specs.Served.{AreServed}
 use Rattle.smk_plan_states.specs.Standing.{StandsBy}
 use Rattle.smk_plan_states.specs.Stays.{Told as TellsRows}
@@ -30,43 +28,40 @@ use Rattle.smk_plan_live.specs.declared.new.Kept.{Kept}
 use Rattle.smk_plan_live.specs.declared.new.Told.{Told}
 use Rattle.smk_plan_live.specs.declared.next.Change.{Change}
 use Rattle.smk_plan_live.specs.declared.next.Next.{Next}
-use Rattle.smk_plan_live.specs.declared.renewing.Renewed.{Renewed}
 use Rattle.smk_plan_live.specs.declared.spending.Loss.{Loss}
 use Rattle.smk_plan_live.specs.declared.phase.Phase.{Phase}
 use Rattle.smk_plan_live.specs.declared.phase.Phase.TheVariants.{Running}
 use Rattle.smk_plan_live.specs.Now.{known_now, seen_now}
-use Rattle.smk_plan_live.specs.Same.{AreSameBut, all_news, numbered_force, numbered_reasons, put_each, readers_of}
+use Rattle.smk_plan_live.specs.Same.{AreSameBut, readers_of}
 use Rattle.smk_plan_live.specs.Carried.{begun_entries, gone_sights, has_name, sight_but}
-use Rattle.smk_plan_live.specs.Kept.{told_kept}
-use Rattle.smk_plan_live.specs.Lives.{AreFlagsNow, AreNamed, AreRanked, IsLive, IsNow, IsSound, facts_now}
+use Rattle.smk_plan_live.specs.Kept.{own_now, told_by_flags}
+use Rattle.smk_plan_live.specs.Lives.{AreFlagsNow, AreNamed, AreRanked, IsLive, IsNow, IsSound}
 use Rattle.smk_plan_live.specs.Phases.{begun_in}
 
 -- ## All jobs
 
--- This is what is kept of all jobs: what they are judged by now, what was judged of them, how their paths hang together, and what is so of them as flags.
+-- This is what is kept of all jobs: how their paths hang together, and what is so of them as flags.
 pub record IsKept (settings : Settings) (b : Base) (kept : Kept) : Type 0 where
-  pub facts : kept.facts.items ≡ facts_now settings b
-  pub reasons : kept.reasons.items ≡ map reasons_of kept.facts.items
   pub texts : list_all has_path_texts b.jobs.jobs ≡ true
   pub table : IsTableOf b.jobs settings.targets kept.table
   pub flags : AreFlagsNow settings b kept.flags
   pub readers : IsSound b → AreServed b.jobs settings.targets → kept.readers.items ≡ readers_of b.jobs.jobs
 
--- the ranks are those by what is kept, where these run
-abbrev pub StandsKept : Kept → List (Option State) → Ranking → Type 0
-StandsKept kept began ranking = StandsBy kept.table (told_kept kept.flags kept.reasons.items kept.facts.items began) ranking
+-- the ranks are those by what is kept
+abbrev pub StandsKept : Base → Kept → Ranking → Type 0
+StandsKept b kept ranking = StandsBy kept.table (told_by_flags b kept.flags.outputs kept.flags.makers kept.flags.forced) ranking
 
--- the plan by them, where these run
-abbrev pub plan_with : Kept → List (Option State) → Ranked → Plan
-plan_with kept began ranked = plan_by kept.table (told_kept kept.flags kept.reasons.items kept.facts.items began) ranked
+-- the plan by them
+abbrev pub plan_with : Base → Kept → Ranked → Plan
+plan_with b kept ranked = plan_by kept.table (told_by_flags b kept.flags.outputs kept.flags.makers kept.flags.forced) ranked
 
 -- The same, and the plan by it.
 pub record IsToldAnew (settings : Settings) (b : Base) (told : Told) : Type 0 where
   pub kept : IsKept settings b told.kept
   pub targets : length told.ranked.current ≡ length settings.targets
-  pub now : IsSound b → AreNamed b → IsNow settings b (plan_with told.kept b.began told.ranked) told.held
-  pub standing : AreServed b.jobs settings.targets → StandsKept told.kept b.began told.ranked.ranking
-  pub ranked : IsSound b → AreNamed b → AreRanked settings b told.ranked.ranking (plan_with told.kept b.began told.ranked)
+  pub now : IsNow settings b (plan_with b told.kept told.ranked) told.held
+  pub standing : AreServed b.jobs settings.targets → StandsKept b told.kept told.ranked.ranking
+  pub ranked : AreRanked settings b told.ranked.ranking (plan_with b told.kept told.ranked)
 
 -- ## One job
 
@@ -96,10 +91,6 @@ pub record IsAhead (p : LivePlan) (n : ℕ) (forced : Bool) : Type 0 where
   pub live : IsLive (record p { base = moved phases began entries sights p.base; plan = plan })
   pub changed : IsChanged p.settings (moved phases began entries sights p.base) p.base n forced
 
--- the facts that are new once what is known and seen has changed at the outputs of the job, whose number is n and which is forced or not; these are its readers
-abbrev pub renewed_at : Base → ℕ → Bool → Job → List JobFacts → List ℕ → List Renewed
-renewed_at b n forced j facts readers = all_news (known_now b) (seen_now b) (contains_text b.sources) forced n j facts readers
-
 abbrev pub or_no_numbers : Option (List ℕ) → List ℕ
 or_no_numbers None = []
 or_no_numbers (Some row) = row
@@ -108,17 +99,17 @@ or_no_numbers (Some row) = row
 abbrev pub readers_at : List (List ℕ) → ℕ → List ℕ
 readers_at readers n = or_no_numbers (slice_get readers n)
 
--- This is told anew of the job of the number n, which is forced or not, and of its readers; and all of what is so of jobs as flags.
+-- This is told anew of the job of the number n, which is forced or not: what is so of it as flags.
 pub record IsChangeOf (p : LivePlan) (n : ℕ) (forced : Bool) (change : Change) : Type 0 where
   pub number : change.number ≡ n
   pub job : Job
   pub is : slice_get p.base.jobs.jobs n ≡ Some job
-  pub news : change.news.items ≡ renewed_at p.base n forced job p.facts.items (readers_at p.readers.items n)
   pub outputs : change.outputs ≡ outputs_in (known_now p.base) (seen_now p.base) job
   pub makers : change.makers ≡ flags_but (is_made_of (known_now p.base) (seen_now p.base) job) n p.base.jobs.makers p.flags.makers
   pub suspect : Suspect
   pub doubted : IsSuspectOf (known_now p.base) (seen_now p.base) p.settings.bounds job suspect
   pub suspects : change.suspects.items ≡ slice_set p.flags.suspects n suspect
+  pub force : change.forced.items ≡ slice_set p.flags.forced n forced
 
 -- This is what the plan keeps of its ranks before a step of the job of the number n.
 pub record IsLast (p : LivePlan) (n : ℕ) (last : Last) : Type 0 where
@@ -128,14 +119,7 @@ pub record IsLast (p : LivePlan) (n : ℕ) (last : Last) : Type 0 where
 
 -- what is told of the jobs by what the plan keeps and what is told anew of it
 abbrev pub told_next : LivePlan → Change → TellsRows
-told_next p change =
-    record {
-      outputs = slice_set p.flags.outputs change.number change.outputs;
-      makers = change.makers;
-      reasons = put_each p.reasons.items (map numbered_reasons change.news.items);
-      forced = put_each (map (λ (f : JobFacts). f.forced) p.facts.items) (map numbered_force change.news.items);
-      running = p.base.began;
-    }
+told_next p change = told_by_flags p.base (slice_set p.flags.outputs change.number change.outputs) change.makers change.forced.items
 
 -- the ranks are those by it
 abbrev pub StandsNext : LivePlan → Change → Ranking → Type 0
@@ -148,10 +132,11 @@ plan_next p change ranked = plan_by p.table (told_next p change) ranked
 -- This is new where the base of the plan has changed at the outputs of the job of the number n, which is forced or not: what is told anew, and the plan by it.
 pub record IsNext (p : LivePlan) (n : ℕ) (forced : Bool) (next : Next) : Type 0 where
   pub change : IsChangeOf p n forced next.change
+  pub own : AreServed p.base.jobs p.settings.targets → FitOwn next.own.items (own_now p.settings p.base)
   pub targets : length next.ranked.current ≡ length p.settings.targets
-  pub now : IsAhead p n forced → IsNow p.settings p.base (plan_next p next.change next.ranked) next.held
-  pub standing : IsAhead p n forced → AreServed p.base.jobs p.settings.targets → StandsNext p next.change next.ranked.ranking
-  pub ranked : IsAhead p n forced → AreRanked p.settings p.base next.ranked.ranking (plan_next p next.change next.ranked)
+  pub now : IsNow p.settings p.base (plan_next p next.change next.ranked) next.held
+  pub standing : AreServed p.base.jobs p.settings.targets → StandsNext p next.change next.ranked.ranking
+  pub ranked : AreRanked p.settings p.base next.ranked.ranking (plan_next p next.change next.ranked)
 
 -- ## A job that is closed
 
@@ -183,7 +168,5 @@ pub record IsLoss (gone : Path) (n : ℕ) (p : LivePlan) (loss : Loss) : Type 0 
   pub number : loss.number ≡ n
   pub job : Job
   pub is : slice_get p.base.jobs.jobs n ≡ Some job
-  pub facts : JobFacts
-  pub has : slice_get p.facts.items n ≡ Some facts
-  pub forced : loss.forced ≡ facts.forced
+  pub forced : slice_get p.flags.forced n ≡ Some loss.forced
   pub sights : loss.sights ≡ map (sight_but p.base gone) (out_paths job.recipe)

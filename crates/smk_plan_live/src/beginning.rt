@@ -137,9 +137,9 @@ impl LivePlan {
 
     /// The job has begun: its child runs, with the state that the job has. From now on its outputs are marked, and nothing stands at them.
     ///
-    /// Facts and reasons are told anew of it and of the jobs that read what it makes, and what is whole is told anew of it alone. Ranks are told anew of these jobs, and of all
+    /// What is whole is told anew of it alone. Ranks are told anew of it and of the jobs that read what it makes, and of all
     /// where another job's rank changes or a Clean job lacks an output. The flags of all jobs are gone over, so the time is linear in the jobs and what they read and
-    /// make, with no look-up by path but for those few jobs. No judge is asked but the plain one.
+    /// make, with no look-up by path but for those of these few jobs on whose reasons something hangs. No judge is asked but the plain one.
     ///
     /// The faults are those of a plan of that moment: the first thing that is refused of it. `OutOfMemory` where there is no memory for all this, or the job has no
     /// output to be named by. After any of them nothing is changed.

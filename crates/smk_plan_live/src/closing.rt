@@ -42,9 +42,10 @@ fn rows_of(alloc: Global, entries: List<Entry>, sights: List<Sight>) -> Result<R
 impl LivePlan {
     /// The job is closed: it was finished or abandoned, and these are now what is known and what is seen of its outputs, one for each output, in their order.
     ///
-    /// The judge is asked once about the closed job and once about each job that reads at or under an output of it, and about no other. What is whole is told anew of
-    /// the closed job alone. Ranks are told anew of these jobs, and of all where another job's rank changes or a Clean job lacks an output. The flags of all jobs are
-    /// gone over, so the time is linear in the jobs and what they read and make, with no look-up by path but for those few jobs.
+    /// The judge is asked at most once about each job of which nothing is known of its reasons: the closed job, and those that read at or under an output of it or did so
+    /// of one that was closed before; and only where it hangs on these whether something is Dirty, or of some readers where they are many. What is whole is told anew of
+    /// the closed job alone. Ranks are told anew of it and its readers, and of all where another job's rank changes or a Clean job lacks an output. The flags of all jobs are
+    /// gone over, so the time is linear in the jobs and what they read and make, with no look-up by path but for the jobs that are judged.
     ///
     /// A source that these entries have with a SHA-256 and another time than it was seen with counts as updated until a sight with its digest comes.
     ///

@@ -77,8 +77,6 @@ impl LivePlan {
             Ok(told) => {
                 let Told { kept, ranked, held } = told;
                 let Kept {
-                    facts,
-                    reasons,
                     table,
                     flags,
                     readers,
@@ -87,8 +85,6 @@ impl LivePlan {
                 let ranks = ranked.ranking.ranks();
                 let commanded = are_seen(alloc, self.settings.cores, jobs, ranks);
                 self.base = next;
-                self.facts = facts;
-                self.reasons = reasons;
                 self.ranking = ranked.ranking;
                 self.current = ranked.current;
                 self.known = ranked.known;

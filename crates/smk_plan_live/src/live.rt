@@ -10,7 +10,8 @@ ghost use Rattle.smk_plan_table.specs.Plans.{HasMadeAt};
 use crate::Phase;
 use crate::base::Base;
 use crate::flags::Flags;
-use crate::lending::lend;
+use crate::learning::{all_own, facts_at, is_forced};
+use crate::lending::{each, lend};
 use crate::now::{entry_now, sight_now, site_of};
 use smk_base::{List, OutOfMemory, PathText};
 use smk_chain::{Jobs, Listings};
@@ -18,7 +19,7 @@ use smk_pick::Settings;
 use smk_plan::Sight;
 use smk_plan_states::{Rank, Ranking, Rows, Table};
 use smk_store::Entry;
-use smk_trigger::{JobFacts, Reason, State};
+use smk_trigger::{JobFacts, Reason, State, reasons};
 use std::alloc::Global;
 use std::marker::Model;
 
@@ -27,8 +28,6 @@ use std::marker::Model;
 pub struct LivePlan {
     pub(crate) base: Base,
     pub(crate) settings: Settings,
-    pub(crate) facts: Vec<JobFacts>,
-    pub(crate) reasons: Vec<List<Reason>>,
     /// The ranks of the jobs, of which their states come, with what is kept of them for the next step.
     pub(crate) ranking: Ranking,
     /// For each target whether it is current.
@@ -55,27 +54,7 @@ impl Model for LivePlan {
 
     ghost coded = { Prim.hlevel (codes, row.the_row.coded) };
 
-    ghost view = { λ r. seen_as r.base r.settings r.facts r.reasons r.ranking r.current r.known r.held r.table r.flags r.readers r.commanded };
-}
-
-// The reasons of the number; none where there are none.
-fn reasons_at(reasons: &[List<Reason>], number: usize) -> &[Reason]
-    ensures { result.now ≡ slice_index_or reasons.now number [] }
-{
-    match reasons.get(number) {
-        None => &[],
-        Some(own) => own.as_slice(),
-    }
-}
-
-// Whether the job of the number is forced, as its facts tell.
-fn is_forced_at(facts: &[JobFacts], number: usize) -> bool
-    ensures { result ≡ slice_index_or (map (λ f. f.forced) facts.now) number false }
-{
-    match facts.get(number) {
-        None => false,
-        Some(has) => has.forced,
-    }
+    ghost view = { λ r. seen_as r.base r.settings r.ranking r.current r.known r.held r.table r.flags r.readers r.commanded };
 }
 
 // The state that the job of the number had when it began, if its child runs.
@@ -89,7 +68,8 @@ fn began_at(began: &[Option<State>], number: usize) -> Option<&State>
 }
 
 impl LivePlan {
-    ghost use Rattle.smk_plan_live.specs.Lives.{IsLive, IsAgreed, AreMakersWhole, facts_now, judging_of};
+    ghost use Rattle.smk_plan_live.specs.Kept.{facts_kept, facts_now, own_by};
+    ghost use Rattle.smk_plan_live.specs.Lives.{IsLive, IsAgreed, AreMakersWhole, judging_of};
     ghost use Rattle.smk_plan_states.specs.Tables.{IsTableOf};
     ghost use Rattle.smk_plan_states.specs.Served.{AreServed};
     ghost use Rattle.smk_plan_live.specs.Now.{output_entry, sight_now};
@@ -119,17 +99,46 @@ impl LivePlan {
         &self.known
     }
 
+    /// What the job is judged by now. None where there is no job of this number. `OutOfMemory` where there is no memory for it.
+    pub fn facts(&self, alloc: Global, job: u32) -> Result<Option<JobFacts>, OutOfMemory>
+        ensures value { IfOk result (λ facts. facts ≡ facts_kept self.now.base self.now.flags.forced job) }
+        ensures now { IfOk result (λ facts. IsLive self.now → AreServed self.now.base.jobs self.now.settings.targets
+            → facts ≡ slice_get (facts_now self.now.settings self.now.base) job) }
+    {
+        let forced = self.flags.forced.as_slice();
+        let facts = facts_at(alloc, &self.base, forced, job as usize)?;
+        Ok(facts)
+    }
+
+    // The reasons of the job of the number, but for the inputs whose job is Dirty; none where there is no such job.
+    fn own_at(&self, alloc: Global, job: u32) -> Result<List<Reason>, OutOfMemory>
+        ensures { IfOk result (λ own. own ≡ slice_index_or (own_by self.now.base self.now.base.jobs.jobs self.now.flags.forced) job []) }
+    {
+        match self.facts(alloc, job)? {
+            None => Ok(List::new(alloc)),
+            Some(facts) => {
+                let own = reasons(alloc, &facts)?;
+                Ok(own)
+            }
+        }
+    }
+
     /// The state of the job now. None where there is no job of this number. `OutOfMemory` where there is no memory for it.
     pub fn state(&self, alloc: Global, job: u32) -> Result<Option<State>, OutOfMemory>
         ensures { IfOk result (λ state. state ≡ slice_get self.now.plan.states job) }
     {
         let number = job as usize;
-        let own = reasons_at(self.reasons.as_slice(), number);
-        let forced = is_forced_at(self.facts.as_slice(), number);
+        let own = self.own_at(alloc, job)?;
+        let forced = is_forced(self.flags.forced.as_slice(), number);
         let begun = began_at(self.base.began.as_slice(), number);
-        let state = self
-            .table
-            .state_of(alloc, &self.ranking, number, own, forced, begun)?;
+        let state = self.table.state_of(
+            alloc,
+            &self.ranking,
+            number,
+            own.as_slice(),
+            forced,
+            begun,
+        )?;
         Ok(state)
     }
 
@@ -137,17 +146,20 @@ impl LivePlan {
     pub fn states(&self, alloc: Global) -> Result<List<State>, OutOfMemory>
         ensures { IfOk result (λ states. states ≡ self.now.plan.states) }
     {
-        let outputs = self.flags.outputs.as_slice();
-        let reasons = self.reasons.as_slice();
-        let lent = lend(alloc, outputs, reasons, self.facts.as_slice())?;
+        let forced = self.flags.forced.as_slice();
+        let jobs = self.base.jobs.jobs.as_slice();
+        let own = all_own(alloc, &self.base, jobs, forced)?;
+        let lent = lend(alloc, self.flags.outputs.as_slice())?;
+        let reasons = each(alloc, own.as_slice())?;
         let rows = Rows {
             outputs: lent.outputs.as_slice(),
             makers: self.flags.makers.as_slice(),
-            reasons: lent.reasons.as_slice(),
-            forced: lent.forced.as_slice(),
+            own: self.flags.own.as_slice(),
             running: self.base.began.as_slice(),
         };
-        let states = self.table.states(alloc, &rows, &self.ranking)?;
+        let states = self
+            .table
+            .states(alloc, &rows, reasons.as_slice(), forced, &self.ranking)?;
         Ok(states)
     }
 
@@ -163,15 +175,6 @@ impl LivePlan {
         ensures { result.now ≡ self.now.base }
     {
         &self.base
-    }
-
-    /// What the job is judged by now. None where there is no job of this number. It takes no memory.
-    pub fn facts(&self, job: u32) -> Option<&JobFacts>
-        ensures value { option_map (λ f. f.now) result ≡ slice_get self.now.facts.items job }
-        ensures now { IsLive self.now → AreServed self.now.base.jobs self.now.settings.targets
-            → option_map (λ f. f.now) result ≡ slice_get (facts_now self.now.settings self.now.base) job }
-    {
-        self.facts.as_slice().get(job as usize)
     }
 
     /// How far each job has come, in plan order. It takes no memory.

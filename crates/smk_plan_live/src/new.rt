@@ -3,10 +3,11 @@
 ghost use Rattle.std.specs.Prelude.{◌≡◌, ◌≢◌, [], length, map, true, None, IfOk, IfErr};
 ghost use Rattle.std.specs.List.{list_all};
 ghost use Rattle.smk_store.specs.Images.{Image};
-ghost use Rattle.smk_trigger.specs.Reasons.{reasons_of};
+ghost use Rattle.smk_plan_states.specs.Rows.{own_of};
+ghost use Rattle.smk_plan_live.specs.Kept.{forced_now, own_now};
 ghost use Rattle.smk_plan_facts.specs.Telling.{has_path_texts};
 ghost use Rattle.smk_plan_table.specs.Plans.{Agree, IsRefused};
-ghost use Rattle.smk_plan_live.specs.Lives.{AreFlagsNow, AreNamed, AreRanked, IsLive, IsAgreed, IsNow, IsSound, IsRefusedNow, facts_now};
+ghost use Rattle.smk_plan_live.specs.Lives.{AreFlagsNow, AreNamed, AreRanked, IsLive, IsAgreed, IsNow, IsSound, IsRefusedNow};
 ghost use Rattle.smk_plan_states.specs.Served.{AreServed};
 ghost use Rattle.smk_plan_live.specs.Steps.{IsKept, IsToldAnew, StandsKept, plan_with};
 ghost use Rattle.smk_plan_live.specs.Changes.{IsFirst};
@@ -20,33 +21,30 @@ use crate::lending::lend;
 use crate::readers::readers_of;
 use crate::sites::sited_of;
 use crate::slots::Slots;
-use crate::telling::{Made, begun_of, tell};
+use crate::telling::{Made, begun_of, tell_known};
 use smk_base::{List, OutOfMemory};
 use smk_chain::Jobs;
 use smk_pick::Settings;
 use smk_plan::{PlanFault, Seen};
 use smk_plan_facts::{all_outputs_told, facts_told, makers_told};
-use smk_plan_states::Table;
+use smk_plan_states::{Own, Table, own_flags};
 use smk_plan_table::{Ranked, suspects_of};
 use smk_store::Store;
-use smk_trigger::{JobFacts, Plain, Reason, all_reasons};
+use smk_trigger::{JobFacts, Plain, all_reasons};
 use std::alloc::Global;
 use std::collections::BTreeMap;
 use std::thread::Threads;
 
-// What the jobs are judged by and what was judged.
+// What was judged of the jobs: whether they have reasons of their own, and which are forced.
 #[derive(Drop)]
 struct Judged {
-    facts: Vec<JobFacts>,
-    reasons: Vec<List<Reason>>,
+    own: Vec<Own>,
+    forced: Vec<bool>,
 }
 
-/// What is kept of all jobs, besides their base: what they are judged by and what was judged, how their paths hang together, what is so of them as flags, and who
-/// reads what they make.
+/// What is kept of all jobs, besides their base: how their paths hang together, what is so of them as flags, and who reads what they make.
 #[derive(Drop)]
 pub(crate) struct Kept {
-    pub(crate) facts: Vec<JobFacts>,
-    pub(crate) reasons: Vec<List<Reason>>,
     pub(crate) table: Table,
     pub(crate) flags: Flags,
     pub(crate) readers: Vec<List<usize>>,
@@ -60,40 +58,45 @@ pub(crate) struct Told {
     pub(crate) held: bool,
 }
 
-// The elements of the list.
-fn elements<T: Drop>(alloc: Global, list: List<T>) -> Result<Vec<T>, OutOfMemory>
-    ensures { IfOk result (λ found. found.items ≡ list) }
+// Which jobs are forced, as their facts tell.
+fn forced_flags(alloc: Global, facts: &[JobFacts]) -> Result<Vec<bool>, OutOfMemory>
+    ensures { IfOk result (λ found. found.items ≡ map (λ f. f.forced) facts.now) }
 {
-    let mut left = list;
-    let mut found = Vec::new(alloc);
-    'items: while let Some(item) = left.pop() {
-        found.push(item)?;
+    let mut found = Vec::with_capacity(alloc, facts.len())?;
+    for one in facts {
+        found.push(one.forced)?;
     }
-    found.reverse();
     Ok(found)
 }
 
-// What all jobs are judged by and what the judge says of them. It is told in several threads, where there are many.
+// Whether jobs have reasons of their own, as the judge says of each of them, and which are forced. It is told in several threads, where there are many.
 fn judge_jobs<Rt: Threads + Sync>(
     rt: &Rt,
     alloc: Global,
     base: &Base,
     settings: &Settings,
 ) -> Result<Judged, OutOfMemory>
-    ensures facts { IfOk result (λ judged. judged.facts.items ≡ facts_now settings.now base.now) }
-    ensures reasons { IfOk result (λ judged. judged.reasons.items ≡ map reasons_of judged.facts.items) }
+    ensures own { IfOk result (λ judged. judged.own.items ≡ map own_of (own_now settings.now base.now)) }
+    ensures forced { IfOk result (λ judged. judged.forced.items ≡ forced_now settings.now base.now) }
     ensures texts { IfOk result (λ judged. list_all has_path_texts base.now.jobs.jobs ≡ true) }
 {
     let ran = begun_of(alloc, base.jobs.jobs.as_slice(), base.phases.as_slice())?;
     let told = facts_told(alloc, &base.jobs, base, settings, &ran)?;
-    let own = all_reasons(rt, alloc, &told, &Plain)?;
-    let facts = elements(alloc, told)?;
-    let reasons = elements(alloc, own)?;
-    Ok(Judged { facts, reasons })
+    let reasons = all_reasons(rt, alloc, &told, &Plain)?;
+    let own = own_flags(alloc, reasons.as_slice())?;
+    let forced = forced_flags(alloc, told.as_slice())?;
+    Ok(Judged { own, forced })
 }
 
-// What is whole of the jobs, and what may be refused of them.
-fn flags_of(alloc: Global, base: &Base, settings: &Settings) -> Result<Flags, OutOfMemory>
+// What is whole of the jobs, and what may be refused of them, with what was judged of them.
+fn flags_of(
+    alloc: Global,
+    base: &Base,
+    settings: &Settings,
+    judged: Judged,
+) -> Result<Flags, OutOfMemory>
+    requires own { judged.own.items ≡ map own_of (own_now settings.now base.now) }
+    requires forced { judged.forced.items ≡ forced_now settings.now base.now }
     ensures { IfOk result (AreFlagsNow settings.now base.now) }
 {
     let jobs = base.jobs.jobs.as_slice();
@@ -104,6 +107,8 @@ fn flags_of(alloc: Global, base: &Base, settings: &Settings) -> Result<Flags, Ou
         outputs: Slots::of(outputs),
         makers,
         suspects: Slots::of(suspects),
+        own: Slots::of(judged.own),
+        forced: Slots::of(judged.forced),
     })
 }
 
@@ -118,11 +123,9 @@ fn kept_of<Rt: Threads + Sync>(
 {
     let judged = judge_jobs(rt, alloc, base, settings)?;
     let table = Table::of(alloc, &base.jobs, &settings.targets)?;
-    let flags = flags_of(alloc, base, settings)?;
+    let flags = flags_of(alloc, base, settings, judged)?;
     let readers = readers_of(alloc, base)?;
     Ok(Kept {
-        facts: judged.facts,
-        reasons: judged.reasons,
         table,
         flags,
         readers,
@@ -136,40 +139,43 @@ fn tell_kept(
     settings: &Settings,
     kept: &Kept,
 ) -> Result<Made, PlanFault>
-    requires { IsKept settings.now base.now kept.now }
+    requires kept { IsKept settings.now base.now kept.now }
+    requires sound { IsSound base.now }
+    requires named { AreNamed base.now }
     ensures targets { IfOk result (λ made. length made.ranked.current ≡ length settings.now.targets) }
-    ensures standing { IfOk result (λ made. AreServed base.now.jobs settings.now.targets → StandsKept kept.now base.now.began made.ranked.ranking) }
-    ensures ranked { IfOk result (λ made. IsSound base.now → AreNamed base.now
-        → AreRanked settings.now base.now made.ranked.ranking (plan_with kept.now base.now.began made.ranked)) }
-    ensures now { IfOk result (λ made. IsSound base.now → AreNamed base.now
-        → IsNow settings.now base.now (plan_with kept.now base.now.began made.ranked) made.held) }
-    ensures refused { IfErr result (λ fault. fault ≢ PlanFault.OutOfMemory → IsSound base.now → AreNamed base.now → IsRefusedNow settings.now base.now fault) }
+    ensures standing { IfOk result (λ made. AreServed base.now.jobs settings.now.targets → StandsKept base.now kept.now made.ranked.ranking) }
+    ensures ranked { IfOk result (λ made. AreRanked settings.now base.now made.ranked.ranking (plan_with base.now kept.now made.ranked)) }
+    ensures now { IfOk result (λ made. IsNow settings.now base.now (plan_with base.now kept.now made.ranked) made.held) }
+    ensures refused { IfErr result (λ fault. fault ≢ PlanFault.OutOfMemory → IsRefusedNow settings.now base.now fault) }
 {
     let outputs = kept.flags.outputs.as_slice();
-    let reasons = kept.reasons.as_slice();
-    let facts = kept.facts.as_slice();
     let makers = kept.flags.makers.as_slice();
+    let forced = kept.flags.forced.as_slice();
+    let own = kept.flags.own.as_slice();
     let suspects = kept.flags.suspects.as_slice();
-    match lend(alloc, outputs, reasons, facts) {
+    match lend(alloc, outputs) {
         Err(_) => Err(PlanFault::OutOfMemory),
-        Ok(rows) => tell(
+        Ok(rows) => tell_known(
             alloc,
             base,
             settings,
             &kept.table,
             &rows,
             makers,
+            forced,
+            own,
             suspects,
-            None,
         ),
     }
 }
 
 // The same with the plan by it.
 fn told_by(alloc: Global, base: &Base, settings: &Settings, kept: Kept) -> Result<Told, PlanFault>
-    requires { IsKept settings.now base.now kept }
+    requires kept { IsKept settings.now base.now kept }
+    requires sound { IsSound base.now }
+    requires named { AreNamed base.now }
     ensures told { IfOk result (IsToldAnew settings.now base.now) }
-    ensures refused { IfErr result (λ fault. fault ≢ PlanFault.OutOfMemory → IsSound base.now → AreNamed base.now → IsRefusedNow settings.now base.now fault) }
+    ensures refused { IfErr result (λ fault. fault ≢ PlanFault.OutOfMemory → IsRefusedNow settings.now base.now fault) }
 {
     match tell_kept(alloc, base, settings, &kept) {
         Err(fault) => Err(fault),
@@ -188,8 +194,10 @@ pub(crate) fn told_of<Rt: Threads + Sync>(
     base: &Base,
     settings: &Settings,
 ) -> Result<Told, PlanFault>
+    requires sound { IsSound base.now }
+    requires named { AreNamed base.now }
     ensures told { IfOk result (IsToldAnew settings.now base.now) }
-    ensures refused { IfErr result (λ fault. fault ≢ PlanFault.OutOfMemory → IsSound base.now → AreNamed base.now → IsRefusedNow settings.now base.now fault) }
+    ensures refused { IfErr result (λ fault. fault ≢ PlanFault.OutOfMemory → IsRefusedNow settings.now base.now fault) }
 {
     match kept_of(rt, alloc, base, settings) {
         Err(_) => Err(PlanFault::OutOfMemory),
@@ -241,8 +249,6 @@ fn over<Rt: Threads + Sync>(
             Ok(LivePlan {
                 base,
                 settings,
-                facts: kept.facts,
-                reasons: kept.reasons,
                 ranking: ranked.ranking,
                 current: ranked.current,
                 known: ranked.known,

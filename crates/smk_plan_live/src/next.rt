@@ -5,22 +5,24 @@ ghost use Rattle.std.specs.List.{slice_get};
 ghost use Rattle.smk_plan_states.specs.Tables.{IsTableOf};
 ghost use Rattle.smk_plan_live.specs.Live.{plan_kept};
 ghost use Rattle.smk_plan_live.specs.Lives.{AreRanked, IsLive, IsNow, IsRefusedNow};
-ghost use Rattle.smk_plan_live.specs.Same.{put_each, numbered_facts, numbered_reasons};
+ghost use Rattle.smk_plan_states.specs.Rows.{FitOwn};
+ghost use Rattle.smk_plan_live.specs.Kept.{own_now};
+ghost use Rattle.smk_plan_live.specs.Learning.{forgotten};
 ghost use Rattle.smk_plan_states.specs.Served.{AreServed};
 ghost use Rattle.smk_plan_live.specs.Steps.{IsAhead, IsChangeOf, IsLast, IsNext, StandsNext, plan_next, readers_at};
 
 use crate::LivePlan;
+use crate::learning::forget;
 use crate::lending::lend_with;
-use crate::renewing::{Renewed, news_of};
 use crate::slots::{Slots, put_at};
 use crate::telling::{Made, tell};
 use smk_base::{List, OutOfMemory};
 use smk_flow::Job;
 use smk_plan::PlanFault;
 use smk_plan_facts::{makers_again, outputs_told};
-use smk_plan_states::Last;
+use smk_plan_states::{Last, Own};
 use smk_plan_table::{Ranked, Suspect, suspect_of};
-use smk_trigger::{JobFacts, Judge, Reason};
+use smk_trigger::Judge;
 use std::alloc::Global;
 
 /// What is told anew once what is known and seen has changed at the outputs of one job.
@@ -28,20 +30,21 @@ use std::alloc::Global;
 pub(crate) struct Change {
     /// The number of the job.
     pub(crate) number: usize,
-    /// What is new of it and of its readers.
-    pub(crate) news: Vec<Renewed>,
     /// For each of its outputs whether it is whole.
     pub(crate) outputs: List<bool>,
     /// For each maker of the jobs whether its path is whole.
     pub(crate) makers: List<bool>,
     /// For each job what may be refused of it.
     pub(crate) suspects: Vec<Suspect>,
+    /// For each job whether it is forced.
+    pub(crate) forced: Vec<bool>,
 }
 
-/// The same, and the plan with it, by ranks.
+/// The same, and the plan with it, by ranks, and for each job whether it has reasons of its own, so far as that is known.
 #[derive(Drop)]
 pub(crate) struct Next {
     pub(crate) change: Change,
+    pub(crate) own: Vec<Own>,
     pub(crate) ranked: Ranked,
     pub(crate) held: bool,
 }
@@ -78,51 +81,29 @@ fn suspects_but(
     Ok(found)
 }
 
-// Puts in what is new of jobs.
-fn put_news(facts: &mut Vec<JobFacts>, reasons: &mut Vec<List<Reason>>, news: Vec<Renewed>)
-    ensures facts { facts.new.items ≡ put_each facts.old.items (map numbered_facts news.items) }
-    ensures reasons { reasons.new.items ≡ put_each reasons.old.items (map numbered_reasons news.items) }
+// Which jobs are forced, where the job of the number is or isn't.
+fn forced_but(
+    alloc: Global,
+    flags: &[bool],
+    number: usize,
+    forced: bool,
+) -> Result<Vec<bool>, OutOfMemory>
+    ensures { IfOk result (λ found. found.items ≡ slice_set flags.now number forced) }
 {
-    for one in news {
-        let Renewed {
-            number,
-            facts: has,
-            reasons: judged,
-        } = one;
-        put_at(facts, number, has);
-        put_at(reasons, number, judged);
-    }
+    let mut found = Vec::from_slice(alloc, flags)?;
+    put_at(&mut found, number, forced);
+    Ok(found)
 }
 
 impl LivePlan {
-    // What is told anew of the job of the number, which is forced or not, and of its readers.
-    fn change_of<J: Judge>(
-        &self,
-        alloc: Global,
-        number: usize,
-        forced: bool,
-        judge: &J,
-    ) -> Result<Change, OutOfMemory>
+    // What is told anew of the job of the number, which is forced or not.
+    fn change_of(&self, alloc: Global, number: usize, forced: bool) -> Result<Change, OutOfMemory>
         requires { number < length self.now.base.jobs.jobs }
         ensures { IfOk result (IsChangeOf self.now number forced) }
     {
         let base = &self.base;
         let jobs = base.jobs.jobs.as_slice();
         let job = job_at(jobs, number);
-        let facts = self.facts.as_slice();
-        let rows = self.readers.as_slice();
-        let readers = readers_at(rows, number);
-        let news = news_of(
-            alloc,
-            base,
-            &base.sources,
-            forced,
-            number,
-            job,
-            facts,
-            readers,
-            judge,
-        )?;
         let outputs = outputs_told(alloc, base, job)?;
         let told = base.jobs.makers.as_slice();
         let flags = self.flags.makers.as_slice();
@@ -130,12 +111,13 @@ impl LivePlan {
         let suspect = suspect_of(base, &self.settings.bounds, job);
         let before = self.flags.suspects.as_slice();
         let suspects = suspects_but(alloc, before, number, suspect)?;
+        let forced = forced_but(alloc, self.flags.forced.as_slice(), number, forced)?;
         Ok(Change {
             number,
-            news,
             outputs,
             makers,
             suspects,
+            forced,
         })
     }
 
@@ -151,33 +133,34 @@ impl LivePlan {
         }
     }
 
-    // The plan with what is told anew of the job of the number, which is forced or not.
-    fn tell_changed(
+    // The plan with what is told anew of the job of the number, which is forced or not, and which jobs have reasons of their own then, so far as that is known.
+    fn tell_changed<J: Judge>(
         &self,
         alloc: Global,
         number: usize,
         forced: bool,
         change: &Change,
+        own: &mut Vec<Own>,
+        judge: &J,
     ) -> Result<Made, PlanFault>
         requires table { IsTableOf self.now.base.jobs self.now.settings.targets self.now.table }
+        requires ahead { IsAhead self.now number forced }
         requires change { IsChangeOf self.now number forced change.now }
+        requires own { own.old.items ≡ forgotten (slice_set self.now.flags.own number Own.Unknown) (readers_at self.now.readers.items number) }
+        ensures own { AreServed self.now.base.jobs self.now.settings.targets → FitOwn own.new.items (own_now self.now.settings self.now.base) }
         ensures targets { IfOk result (λ made. length made.ranked.current ≡ length self.now.settings.targets) }
-        ensures now { IfOk result (λ made. IsAhead self.now number forced
-            → IsNow self.now.settings self.now.base (plan_next self.now change.now made.ranked) made.held) }
-        ensures standing { IfOk result (λ made. IsAhead self.now number forced → AreServed self.now.base.jobs self.now.settings.targets
-            → StandsNext self.now change.now made.ranked.ranking) }
-        ensures ranked { IfOk result (λ made. IsAhead self.now number forced
-            → AreRanked self.now.settings self.now.base made.ranked.ranking (plan_next self.now change.now made.ranked)) }
-        ensures refused { IfErr result (λ fault. fault ≢ PlanFault.OutOfMemory → IsAhead self.now number forced
-            → IsRefusedNow self.now.settings self.now.base fault) }
+        ensures now { IfOk result (λ made. IsNow self.now.settings self.now.base (plan_next self.now change.now made.ranked) made.held) }
+        ensures standing { IfOk result (λ made. AreServed self.now.base.jobs self.now.settings.targets → StandsNext self.now change.now made.ranked.ranking) }
+        ensures ranked { IfOk result (λ made. AreRanked self.now.settings self.now.base made.ranked.ranking (plan_next self.now change.now made.ranked)) }
+        ensures refused { IfErr result (λ fault. fault ≢ PlanFault.OutOfMemory → IsRefusedNow self.now.settings self.now.base fault) }
     {
-        let outputs = self.flags.outputs.as_slice();
-        let reasons = self.reasons.as_slice();
-        let facts = self.facts.as_slice();
-        let makers = change.makers.as_slice();
-        let suspects = change.suspects.as_slice();
         let last = self.last(number);
-        match lend_with(alloc, outputs, reasons, facts, change) {
+        let readers = last.readers;
+        let outputs = self.flags.outputs.as_slice();
+        let makers = change.makers.as_slice();
+        let forces = change.forced.as_slice();
+        let suspects = change.suspects.as_slice();
+        match lend_with(alloc, outputs, change) {
             Err(_) => Err(PlanFault::OutOfMemory),
             Ok(rows) => tell(
                 alloc,
@@ -186,38 +169,56 @@ impl LivePlan {
                 &self.table,
                 &rows,
                 makers,
+                forces,
+                own,
                 suspects,
                 Some(last),
+                readers,
+                judge,
             ),
         }
     }
 
     // What is new with what is told anew of the job of the number, which is forced or not.
-    fn next_by(
+    fn next_by<J: Judge>(
         &self,
         alloc: Global,
         number: usize,
         forced: bool,
         change: Change,
+        own: Vec<Own>,
+        judge: &J,
     ) -> Result<Next, PlanFault>
         requires table { IsTableOf self.now.base.jobs self.now.settings.targets self.now.table }
+        requires ahead { IsAhead self.now number forced }
         requires change { IsChangeOf self.now number forced change }
+        requires own { own.items ≡ forgotten (slice_set self.now.flags.own number Own.Unknown) (readers_at self.now.readers.items number) }
         ensures next { IfOk result (IsNext self.now number forced) }
-        ensures refused { IfErr result (λ fault. fault ≢ PlanFault.OutOfMemory → IsAhead self.now number forced
-            → IsRefusedNow self.now.settings self.now.base fault) }
+        ensures refused { IfErr result (λ fault. fault ≢ PlanFault.OutOfMemory → IsRefusedNow self.now.settings self.now.base fault) }
     {
-        match self.tell_changed(alloc, number, forced, &change) {
+        let mut own = own;
+        match self.tell_changed(alloc, number, forced, &change, &mut own, judge) {
             Err(fault) => Err(fault),
             Ok(made) => Ok(Next {
                 change,
+                own,
                 ranked: made.ranked,
                 held: made.held,
             }),
         }
     }
 
-    // What is new once the base has changed at the outputs of the job of the number, which is forced or not. The judge is asked once about the job and once about
-    // each of its readers.
+    // The flags of reasons, once nothing is known any more of the job of the number and of its readers.
+    fn forgetting(&self, alloc: Global, number: usize) -> Result<Vec<Own>, OutOfMemory>
+        ensures { IfOk result (λ own. own.items ≡ forgotten (slice_set self.now.flags.own number Own.Unknown) (readers_at self.now.readers.items number)) }
+    {
+        let rows = self.readers.as_slice();
+        let readers = readers_at(rows, number);
+        forget(alloc, self.flags.own.as_slice(), number, readers)
+    }
+
+    // What is new once the base has changed at the outputs of the job of the number, which is forced or not. The judge is asked about those of the job and of its readers on
+    // whose reasons something hangs.
     fn next_of<J: Judge>(
         &self,
         alloc: Global,
@@ -227,32 +228,34 @@ impl LivePlan {
     ) -> Result<Next, PlanFault>
         requires within { number < length self.now.base.jobs.jobs }
         requires table { IsTableOf self.now.base.jobs self.now.settings.targets self.now.table }
+        requires ahead { IsAhead self.now number forced }
         ensures next { IfOk result (IsNext self.now number forced) }
-        ensures refused { IfErr result (λ fault. fault ≢ PlanFault.OutOfMemory → IsAhead self.now number forced
-            → IsRefusedNow self.now.settings self.now.base fault) }
+        ensures refused { IfErr result (λ fault. fault ≢ PlanFault.OutOfMemory → IsRefusedNow self.now.settings self.now.base fault) }
     {
-        match self.change_of(alloc, number, forced, judge) {
+        match self.change_of(alloc, number, forced) {
             Err(_) => Err(PlanFault::OutOfMemory),
-            Ok(change) => self.next_by(alloc, number, forced, change),
+            Ok(change) => match self.forgetting(alloc, number) {
+                Err(_) => Err(PlanFault::OutOfMemory),
+                Ok(own) => self.next_by(alloc, number, forced, change, own, judge),
+            },
         }
     }
 
     // Puts in what is new.
     fn install(&mut self, next: Next)
         ensures base { (self.new.base ≡ self.old.base) × (self.new.settings ≡ self.old.settings) }
-        ensures facts { self.new.facts.items ≡ put_each self.old.facts.items (map numbered_facts next.change.news.items) }
-        ensures reasons { self.new.reasons.items ≡ put_each self.old.reasons.items (map numbered_reasons next.change.news.items) }
-        ensures plan { self.new.plan ≡ plan_kept self.new.base self.new.facts.items self.new.reasons.items self.new.ranking next.ranked.current next.ranked.known
-            self.new.table self.new.flags }
+        ensures plan { self.new.plan ≡ plan_kept self.new.base self.new.ranking next.ranked.current next.ranked.known self.new.table self.new.flags }
         ensures ranks { (self.new.ranking ≡ next.ranked.ranking) × (self.new.held ≡ next.held) }
         ensures outputs { self.new.flags.outputs ≡ slice_set self.old.flags.outputs next.change.number next.change.outputs }
         ensures makers { self.new.flags.makers ≡ next.change.makers }
         ensures suspects { self.new.flags.suspects ≡ next.change.suspects.items }
+        ensures reasons { (self.new.flags.own ≡ next.own.items) × (self.new.flags.forced ≡ next.change.forced.items) }
         ensures paths { (self.new.table ≡ self.old.table) × (self.new.readers ≡ self.old.readers) }
         ensures commands { self.new.commanded ≡ self.old.commanded }
     {
         let Next {
             change,
+            own,
             ranked,
             held,
         } = next;
@@ -263,23 +266,24 @@ impl LivePlan {
         } = ranked;
         let Change {
             number,
-            news,
             outputs,
             makers,
             suspects,
+            forced,
         } = change;
-        put_news(&mut self.facts, &mut self.reasons, news);
         self.flags.outputs.put(number, outputs);
         self.flags.makers = makers;
         self.flags.suspects = Slots::of(suspects);
+        self.flags.own = Slots::of(own);
+        self.flags.forced = Slots::of(forced);
         self.ranking = ranking;
         self.current = current;
         self.known = known;
         self.held = held;
     }
 
-    /// The base has changed at the outputs of the job of the number, which is forced or not from now on; all else is told anew by it. The judge is asked once about
-    /// the job and once about each of its readers.
+    /// The base has changed at the outputs of the job of the number, which is forced or not from now on; all else is told anew by it. The judge is asked about those of the job
+    /// and of its readers on whose reasons something hangs: a job above which one is Dirty is so whatever its own reasons are.
     ///
     /// The faults are those of a plan of this moment; after any of them nothing is changed.
     pub(crate) fn settle<J: Judge>(

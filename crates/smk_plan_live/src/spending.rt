@@ -98,13 +98,13 @@ impl LivePlan {
         let Some(job) = self.base.jobs.jobs.as_slice().get(number) else {
             return Err(OutOfMemory);
         };
-        let Some(facts) = self.facts.as_slice().get(number) else {
+        let Some(forced) = self.flags.forced.as_slice().get(number) else {
             return Err(OutOfMemory);
         };
         let sights = sights_but(alloc, &self.base, path, job)?;
         Ok(Loss {
             number,
-            forced: facts.forced,
+            forced: *forced,
             sights,
         })
     }
@@ -138,9 +138,9 @@ impl LivePlan {
     /// The output was removed: nothing stands at it, or under it, from now on; what is known of it stays. Where the path is no output of the jobs nothing is
     /// changed.
     ///
-    /// Facts and reasons are told anew of its job and of the jobs that read at or under the job's outputs, and what is whole is told anew of its job alone. Ranks
-    /// are told anew of these jobs, and of all where another job's rank changes or a Clean job lacks an output. The flags of all jobs are gone over, so the time is linear
-    /// in the jobs and what they read and make, with no look-up by path but for those few jobs. No judge is asked but the plain one.
+    /// What is whole is told anew of its job alone. Ranks are told anew of that and of the jobs that read at or under its outputs, and of all where another job's rank changes
+    /// or a Clean job lacks an output. The flags of all jobs are gone over, so the time is linear in the jobs and what they read and make, with no look-up by path but for
+    /// those of these few jobs on whose reasons something hangs. No judge is asked but the plain one.
     ///
     /// The faults are those of a plan of that moment: the first thing that is refused of it, or `OutOfMemory` where there is no memory for all this. After any
     /// of them nothing is changed.

@@ -28,7 +28,7 @@ use Rattle.smk_plan_states.specs.Judged.{Judging, with_states}
 use Rattle.smk_plan_states.specs.Paths.{site_at}
 use Rattle.smk_plan_states.specs.Passes.{state_at, is_dirty_told}
 use Rattle.smk_plan_states.specs.Lines.{origin_of, line_of}
-use Rattle.smk_plan_states.specs.Rows.{lent}
+use Rattle.smk_plan_states.specs.Rows.{forced_at, reasons_at}
 use Rattle.smk_plan_states.specs.Moment.{IsMoment}
 use Rattle.smk_plan_states.specs.Ranks.{rank_of, plain_state, state_by}
 use Rattle.smk_plan_states.specs.Ranking.{upstream_paths}
@@ -127,7 +127,7 @@ module _
   -- one state more
   pub build_step :
       (number : ℕ) (line : Line) (inputs : List Input) (force : Bool) (own : List Reason) (begun : Option State) (rank : Rank) (ranks : List Rank) (state : State) (found new : List State) →
-      number < length lines → line ≡ get_or lines number line → inputs ≡ line.inputs → force ≡ get_or rows.forced.now number false → own ≡ get_or (lent rows.reasons.now) number [] →
+      number < length lines → line ≡ get_or lines number line → inputs ≡ line.inputs → force ≡ get_or (forced_at at J) number false → own ≡ get_or (reasons_at at J) number [] →
       begun ≡ get_or rows.running.now number None → ranks ≡ map rank_of ss → rank ≡ get_or ranks number AtOpen →
       ((alone : List Reason) → own ≡ alone ++ when force Forced → state ≡ state_by begun rank (alone ++ (map Upstream (upstream_paths ranks origins inputs) ++ when force Forced))) →
       new ≡ found ++ state ∷ [] → found ≡ map late (take number J.jobs) → new ≡ map late (take (number + 1) J.jobs)

@@ -41,11 +41,11 @@ use Rattle.smk_plan_states.specs.InUse.{in_use_told, is_in_use_told}
 use Rattle.smk_plan_states.specs.First.{first_state, first_by_table, first_states, IsSolved}
 use Rattle.smk_plan_states.specs.Held.{is_kept_in}
 use Rattle.smk_plan_states.specs.Lines.{tells_of, link_to, origin_of, is_listed, is_read, inputs_from, gathered_of, output_of, line_of}
-use Rattle.smk_plan_states.specs.Rows.{lent}
+use Rattle.smk_plan_states.specs.Rows.{has_any, lent, forced_at, reasons_at}
 use Rattle.smk_plan_states.specs.Moment.{IsMoment}
 use Rattle.smk_plan_states.specs.Ranks.{rank_of, rank_at, is_open_rank, is_dirty_rank, is_clean_rank, by_rank, unless_clean_rank, rank_while_running}
 use Rattle.smk_plan_states.specs.Spots.{maker_at, spot_in}
-use Rattle.smk_plan_states.specs.Ranking.{has_any, reading_opens_by, gathering_opens_by, gathered_opens, opens_by, is_upstream, dirties_by, upstream_paths, any_gone, is_kept_by, table_rank, first_rank}
+use Rattle.smk_plan_states.specs.Ranking.{reading_opens_by, gathering_opens_by, gathered_opens, opens_by, is_upstream, dirties_by, upstream_paths, any_gone, is_kept_by, table_rank, first_rank}
 use Rattle.smk_laws_plan.proofs.CurrentLists.{In, in_right}
 use Rattle.smk_laws_plan.proofs.CurrentChosen.{paths_are}
 use Rattle.smk_plan_states.proofs.Tests.{any_map}
@@ -351,14 +351,14 @@ module _
         ap (λ (fs : List (List Bool)). get_or fs number []) (h.told.outputs ∙ ap (map (whole_outputs at.image)) all)
         ∙ at_split (whole_outputs at.image) before k after number [] count
 
-    pub reasons_there : get_or (lent rows.reasons.now) number [] ≡ reasons_now at.image at.settings at.progress J k
+    pub reasons_there : get_or (reasons_at at J) number [] ≡ reasons_now at.image at.settings at.progress J k
     reasons_there =
-        ap (λ (rs : List (List Reason)). get_or rs number []) (h.told.reasons ∙ ap (map (reasons_now at.image at.settings at.progress J)) all)
+        ap (λ (rs : List (List Reason)). get_or rs number []) (ap (map (reasons_now at.image at.settings at.progress J)) all)
         ∙ at_split (reasons_now at.image at.settings at.progress J) before k after number [] count
 
-    pub forced_there : get_or rows.forced.now number false ≡ is_forced at.image at.settings at.progress (with_states J []) k
+    pub forced_there : get_or (forced_at at J) number false ≡ is_forced at.image at.settings at.progress (with_states J []) k
     forced_there =
-        ap (λ fs. get_or fs number false) (h.told.forced ∙ ap (map (is_forced at.image at.settings at.progress (with_states J []))) all)
+        ap (λ fs. get_or fs number false) (ap (map (is_forced at.image at.settings at.progress (with_states J []))) all)
         ∙ at_split (is_forced at.image at.settings at.progress (with_states J [])) before k after number false count
 
     pub running_there : get_or rows.running.now number None ≡ kept_state at.image at.settings at.progress (with_states J []) k
@@ -368,7 +368,7 @@ module _
 
     table_is :
         (line : Line) (u : Bool) → line ≡ line_of J at.settings.targets k → u ≡ read_now k →
-        table_rank (map rank_of (map early before)) origins rows line number u ≡ rank_of (first_by_table at.image at.settings at.progress (with_states J ss) k)
+        table_rank (map rank_of (map early before)) origins rows (reasons_at at J) line number u ≡ rank_of (first_by_table at.image at.settings at.progress (with_states J ss) k)
     table_is line u l e =
         let states = map early before in
         let opened =
@@ -388,7 +388,7 @@ module _
 
     pub first_is :
         (line : Line) (u : Bool) → line ≡ line_of J at.settings.targets k → u ≡ read_now k →
-        first_rank (map rank_of (map early before)) origins rows line number u ≡ rank_of (early k)
+        first_rank (map rank_of (map early before)) origins rows (reasons_at at J) line number u ≡ rank_of (early k)
     first_is line u l e =
         (λ i. rank_while_running (running_there i) (table_is line u l e i))
         ∙ sym (running_is (kept_state at.image at.settings at.progress (with_states J []) k) (first_by_table at.image at.settings at.progress (with_states J ss) k))
@@ -397,13 +397,13 @@ module _
 
   pub first_step :
       (number : ℕ) (line : Line) (u : Bool) (rank : Rank) (old seen new : List Rank) →
-      number < length lines → line ≡ get_or lines number line → u ≡ get_or used number false → seen ≡ old → rank ≡ first_rank seen origins rows line number u → new ≡ old ++ rank ∷ [] →
+      number < length lines → line ≡ get_or lines number line → u ≡ get_or used number false → seen ≡ old → rank ≡ first_rank seen origins rows (reasons_at at J) line number u → new ≡ old ++ rank ∷ [] →
       old ≡ map rank_of (map early (take number J.jobs)) → new ≡ map rank_of (map early (take (number + 1) J.jobs))
   first_step number line u rank old seen new lt l e s r n made =
       let within : number < length J.jobs = subst (λ (c : ℕ). number < c) size lt in
       let p = split_at J.jobs number within in
       let is : rank ≡ rank_of (early p.0) =
-      r ∙ ap (λ (rs : List Rank). first_rank rs origins rows line number u) (s ∙ made)
+      r ∙ ap (λ (rs : List Rank). first_rank rs origins rows (reasons_at at J) line number u) (s ∙ made)
       ∙ first_is (take number J.jobs) p.0 (drop (suc number) J.jobs) p.1 number (sym p.2) line u
       (l ∙ line_there (take number J.jobs) p.0 (drop (suc number) J.jobs) p.1 number (sym p.2) line)
       (e ∙ used_there (take number J.jobs) p.0 (drop (suc number) J.jobs) p.1 number (sym p.2)) in

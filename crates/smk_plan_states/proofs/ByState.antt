@@ -1,5 +1,5 @@
 -- What is told by the ranks of some states is told by the states.
-use Rattle.std.proofs.Common.{◌≡◌, ◌∙◌, ◌≤◌, ◌<◌, ltb-false, ℕ, zero, suc, arith, Bool, false, length, drop, sym, List, [], ◌∷◌, map, ◌&&◌, ◌||◌, not, refl, ap, Option, Some, None, option_map}
+use Rattle.std.proofs.Common.{◌≡◌, ◌∙◌, ◌≤◌, ltb-false, ℕ, zero, suc, arith, Bool, false, length, drop, sym, List, [], ◌∷◌, map, ◌&&◌, ◌||◌, not, refl, ap, Option, Some, None, option_map}
 use Rattle.std.specs.Prelude.{if◌then◌else◌, is_none, nat_lt, zip}
 use Rattle.std.specs.Borrow.{Bor}
 use Rattle.std.specs.List.{list_any, slice_get}
@@ -16,7 +16,7 @@ use Rattle.smk_plan_states.specs.Passes.{state_at}
 use Rattle.smk_plan_states.specs.Ranks.{is_clean_rank, is_to_run_rank, rank_at, rank_of}
 use Rattle.smk_plan_states.specs.Rows.{lent}
 use Rattle.smk_plan_states.specs.Spots.{is_ready_spot, is_over_ready}
-use Rattle.smk_plan_states.specs.Ranking.{has_link, is_held_by, is_kept_by, is_lent_lacking, is_needed_by_flags, is_needed_in, is_new_awaited, is_run_reader, lacks}
+use Rattle.smk_plan_states.specs.Ranking.{has_link, is_held_by, is_kept_by, is_lent_lacking, is_needed_by_flags, is_needed_in, is_new_awaited, lacks}
 
 -- ## By states
 

@@ -1,5 +1,6 @@
 pub mod Tests
 mod Apart
+pub mod OwnReasons
 mod Meaning
 mod Told
 mod ReadOthers

@@ -1,9 +1,9 @@
 -- The ranks of the first pass are told by themselves: so they stay through a step of one job, where each that is doubted comes out as it was.
-use Rattle.std.proofs.Common.{◌≡◌, ◌∙◌, ◌<◌, ◌≤◌, ◌+◌, ◌==◌, ℕ, zero, suc, length, take, drop, get_or, add-one, arith, Bool, true, false, not, ◌&&◌, ◌||◌, List, [], ◌∷◌, ◌++◌, map, filter, find, refl, sym, ap, subst, Option, Some, None, option_map, is_some, true≢false}
-use Rattle.std.specs.Prelude.{nat_eq, slice_index_or, if◌then◌else◌, IfOk, Result, Ok, Err}
+use Rattle.std.proofs.Common.{◌≡◌, ◌∙◌, ◌<◌, ◌≤◌, ◌+◌, ◌==◌, ℕ, zero, suc, length, take, drop, get_or, add-one, arith, Bool, true, false, not, ◌&&◌, ◌||◌, List, [], ◌∷◌, ◌++◌, map, find, refl, sym, ap, subst, Option, Some, None, option_map, is_some, true≢false}
+use Rattle.std.specs.Prelude.{nat_eq, slice_index_or, if◌then◌else◌}
 use Rattle.std.specs.List.{list_any, slice_get}
 use Rattle.std.specs.Option.{option_and_then}
-use Rattle.smk_world.specs.Trees.{Path, Each, among}
+use Rattle.smk_world.specs.Trees.{Path, Each}
 use Rattle.smk_world.specs.World.{in_paths}
 use Rattle.smk_flow.specs.declared.job.Job.{Job}
 use Rattle.smk_chain.specs.declared.jobs.Jobs.{Jobs}
@@ -26,12 +26,12 @@ use Rattle.smk_plan_states.specs.Judged.{Judging, with_states}
 use Rattle.smk_plan_states.specs.First.{first_states}
 use Rattle.smk_plan_states.specs.Lines.{tells_of, link_to, origin_of, inputs_from, gathered_of, line_of}
 use Rattle.smk_plan_states.specs.Moment.{IsMoment}
-use Rattle.smk_plan_states.specs.Rows.{lent}
+use Rattle.smk_plan_states.specs.Rows.{has_any, forced_at, reasons_at}
 use Rattle.smk_plan_states.specs.Ranks.{rank_of, rank_at, is_open_rank, is_dirty_rank, is_clean_rank, by_rank, rank_while_running, state_by}
-use Rattle.smk_plan_states.specs.Spots.{origin_at, maker_at, over_flag, spot_of, spot_in}
-use Rattle.smk_plan_states.specs.Ranking.{has_any, reading_opens_by, gathering_opens_by, input_opens, gathered_opens, opens_by, is_upstream, dirties_by, is_kept_by, table_rank, first_rank, is_link, upstream_paths}
-use Rattle.smk_plan_states.specs.Stays.{Told, told_by, spot_told, rank_told, OfSome, OfLine, IsByEarlier, AreEarlier, AreFirst, AreRowsBut, IsUntouched, alone_in, but_last, has_number, is_made_by, reads_of, state_told, states_from, states_told}
-use Rattle.std.proofs.lemmas.List.{map-append, length-map, take_all, append_cancel_right}
+use Rattle.smk_plan_states.specs.Spots.{maker_at, spot_of}
+use Rattle.smk_plan_states.specs.Ranking.{reading_opens_by, gathering_opens_by, input_opens, gathered_opens, is_upstream, is_kept_by, first_rank, is_link, upstream_paths}
+use Rattle.smk_plan_states.specs.Stays.{Told, told_at, spot_told, rank_told, OfSome, OfLine, IsByEarlier, AreEarlier, AreFirst, AreRowsBut, IsUntouched, alone_in, but_last, has_number, is_made_by, reads_of, state_told, states_from, states_told}
+use Rattle.std.proofs.lemmas.List.{map-append, length-map, take_all}
 use Rattle.std.proofs.lemmas.Option.{slice_get-map, get_or_from_slice_get}
 use Rattle.std.proofs.lemmas.Bool.{eqb-true, eqb-false, eq-eqb}
 use Rattle.std.proofs.Math.Bool.{or-true}
@@ -213,13 +213,13 @@ module _
   rank_before :
       (v u : List Rank) (before : List Job) (k : Job) (after : List Job) → J.jobs ≡ before ++ k ∷ after → (n : ℕ) → n ≡ length before →
       ((m : ℕ) → m < n → slice_get v m ≡ slice_get u m) → (line : Line) → line ≡ line_of J at.settings.targets k → (b : Bool) →
-      first_rank v origins rows line n b ≡ first_rank u origins rows line n b
+      first_rank v origins rows (reasons_at at J) line n b ≡ first_rank u origins rows (reasons_at at J) line n b
   rank_before v u before k after all n count agree line is b =
-      first_alike v u origins (told_by rows) (told_by rows) (λ m. m < n) agree (λ m q. refl) (λ m o e q. refl) line n b b
+      first_alike v u origins (told_at at J rows) (told_at at J rows) (λ m. m < n) agree (λ m q. refl) (λ m o e q. refl) line n b b
       (subst (OfLine (λ m. m < n) origins) (sym is) (line_below before k after all n count)) refl refl refl refl
 
   -- such are the ranks of the first states
-  pub ranks_told : AreFirst lines origins (told_by rows) used (map rank_of (first_states at J ss))
+  pub ranks_told : AreFirst lines origins (told_at at J rows) used (map rank_of (first_states at J ss))
   ranks_told = record { each = each }
     where
       all_ranks : List Rank
@@ -227,7 +227,7 @@ module _
 
       each :
           (n : ℕ) (line : Line) → slice_get lines n ≡ Some line →
-          slice_get (map rank_of (map first_of J.jobs)) n ≡ Some (first_rank (map rank_of (map first_of J.jobs)) origins rows line n (slice_index_or used n false))
+          slice_get (map rank_of (map first_of J.jobs)) n ≡ Some (first_rank (map rank_of (map first_of J.jobs)) origins rows (reasons_at at J) line n (slice_index_or used n false))
       each n line e =
           let within : n < length J.jobs = subst (λ (c : ℕ). n < c) (size at J ss lines origins rows used h) (got_below lines n line e) in
           let p = split_at J.jobs n within in
@@ -251,7 +251,7 @@ module _
           (used_there at J ss lines origins rows used h before p.0 after p.1 n count)))
 
   -- and no others are told so
-  pub ranks_are : (ranks : List Rank) → length ranks ≡ length lines → AreFirst lines origins (told_by rows) used ranks → ranks ≡ map rank_of (first_states at J ss)
+  pub ranks_are : (ranks : List Rank) → length ranks ≡ length lines → AreFirst lines origins (told_at at J rows) used ranks → ranks ≡ map rank_of (first_states at J ss)
   ranks_are ranks long first =
       first_done at J ss lines origins rows used h (length lines) ranks (omega arith)
       (sym (take_all (length lines) ranks (omega (arith, long))) ∙ so_far (length lines) (omega arith))
@@ -269,8 +269,8 @@ module _
           let got : line ≡ get_or lines n line = sym (get_or_from_slice_get lines n line line at_line) in
           let line_is = got ∙ line_there at J ss lines origins rows used h (take n J.jobs) k.0 (drop (suc n) J.jobs) k.1 n (sym k.2) line in
           let u = get_or used n false in
-          let rank : p.0 ≡ first_rank (take n ranks) origins rows line n u =
-          some_inj p.0 (first_rank ranks origins rows line n u) (sym at_rank ∙ first.each n line at_line)
+          let rank : p.0 ≡ first_rank (take n ranks) origins rows (reasons_at at J) line n u =
+          some_inj p.0 (first_rank ranks origins rows (reasons_at at J) line n u) (sym at_rank ∙ first.each n line at_line)
           ∙ rank_before ranks (take n ranks) (take n J.jobs) k.0 (drop (suc n) J.jobs) k.1 n (sym k.2)
           (λ m lt. ap (λ (rs : List Rank). slice_get rs m) p.1 ∙ front_alike (take n ranks) (p.0 ∷ drop (suc n) ranks) m (omega (arith, lt, p.2))) line line_is u in
           first_step at J ss lines origins rows used h n line u p.0 (take n ranks) (take n ranks) (take (suc n) ranks) (omega (arith, le)) got refl refl rank p.3
@@ -411,11 +411,11 @@ module _
   record IsAt (n : ℕ) (line : Line) : Type 0 where
     job : Job
     state : slice_get ss n ≡ Some (state_of at.image at.settings at.progress (with_states J ss) job)
-    alone : slice_index_or (lent rows.reasons.now) n [] ≡ own_of at.image at.settings at.progress J job ++ when (slice_index_or rows.forced.now n false) Forced
+    alone : slice_index_or (reasons_at at J) n [] ≡ own_of at.image at.settings at.progress J job ++ when (slice_index_or (forced_at at J) n false) Forced
     made :
         state_of at.image at.settings at.progress (with_states J ss) job
         ≡ state_by (slice_index_or rows.running.now n None) (slice_index_or (map rank_of ss) n AtOpen)
-        (own_of at.image at.settings at.progress J job ++ (map Upstream (upstream_paths (map rank_of ss) origins line.inputs) ++ when (slice_index_or rows.forced.now n false) Forced))
+        (own_of at.image at.settings at.progress J job ++ (map Upstream (upstream_paths (map rank_of ss) origins line.inputs) ++ when (slice_index_or (forced_at at J) n false) Forced))
 
   at_number : (n : ℕ) (line : Line) → slice_get lines n ≡ Some line → IsAt n line
   at_number n line e =
@@ -448,24 +448,24 @@ module _
       }
 
   -- the states by the ranks of the table's states are those
-  pub states_are : states_told lines origins (told_by rows) (map rank_of ss) ≡ ss
+  pub states_are : states_told lines origins (told_at at J rows) (map rank_of ss) ≡ ss
   states_are =
-      all_alike (states_told lines origins (told_by rows) (map rank_of ss)) ss (long ∙ size at J ss lines origins rows used h ∙ sym (ap length h.solved ∙ length-map J.jobs (state_of at.image at.settings at.progress (with_states J ss)))) one
+      all_alike (states_told lines origins (told_at at J rows) (map rank_of ss)) ss (long ∙ size at J ss lines origins rows used h ∙ sym (ap length h.solved ∙ length-map J.jobs (state_of at.image at.settings at.progress (with_states J ss)))) one
     where
-      long : length (states_told lines origins (told_by rows) (map rank_of ss)) ≡ length lines
-      long = states_long origins (told_by rows) (map rank_of ss) 0 lines
+      long : length (states_told lines origins (told_at at J rows) (map rank_of ss)) ≡ length lines
+      long = states_long origins (told_at at J rows) (map rank_of ss) 0 lines
 
-      one : (n : ℕ) → n < length (states_told lines origins (told_by rows) (map rank_of ss)) → slice_get (states_told lines origins (told_by rows) (map rank_of ss)) n ≡ slice_get ss n
+      one : (n : ℕ) → n < length (states_told lines origins (told_at at J rows) (map rank_of ss)) → slice_get (states_told lines origins (told_at at J rows) (map rank_of ss)) n ≡ slice_get ss n
       one n lt =
-          let l = split_at lines n (subst (λ (c : ℕ). n < c) (states_long origins (told_by rows) (map rank_of ss) 0 lines) lt) in
+          let l = split_at lines n (subst (λ (c : ℕ). n < c) (states_long origins (told_at at J rows) (map rank_of ss) 0 lines) lt) in
           let e : slice_get lines n ≡ Some l.0 = ap (λ (ls : List Line). slice_get ls n) l.1 ∙ there (take n lines) l.0 (drop (suc n) lines) n l.2 in
           let x = at_number n l.0 e in
-          let forced = slice_index_or rows.forced.now n false in
-          let alone : alone_in forced (slice_index_or (lent rows.reasons.now) n []) ≡ own_of at.image at.settings at.progress J x.job =
+          let forced = slice_index_or (forced_at at J) n false in
+          let alone : alone_in forced (slice_index_or (reasons_at at J) n []) ≡ own_of at.image at.settings at.progress J x.job =
           ap (alone_in forced) x.alone ∙ alone_is forced (own_of at.image at.settings at.progress J x.job) in
           let plain : 0 + n ≡ n = omega arith in
-          state_at origins (told_by rows) (map rank_of ss) 0 lines n l.0 e
-          ∙ ap (λ m. Some (state_told origins (told_by rows) (map rank_of ss) m l.0)) plain
+          state_at origins (told_at at J rows) (map rank_of ss) 0 lines n l.0 e
+          ∙ ap (λ m. Some (state_told origins (told_at at J rows) (map rank_of ss) m l.0)) plain
           ∙ ap
           (λ (own : List Reason).
           Some

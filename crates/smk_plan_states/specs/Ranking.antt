@@ -1,5 +1,5 @@
 -- The ranks of jobs, by links, flags and the ranks of other jobs.
-use Rattle.std.specs.Prelude.{ℕ, Bool, true, false, ◌==◌, ◌&&◌, ◌||◌, not, List, [], ◌∷◌, map, filter, zip, Option, None, is_none, is_some, if◌then◌else◌, slice_index_or}
+use Rattle.std.specs.Prelude.{ℕ, Bool, false, ◌==◌, ◌&&◌, ◌||◌, not, List, [], map, filter, zip, Option, None, is_none, is_some, if◌then◌else◌, slice_index_or}
 use Rattle.std.specs.List.{list_any}
 use Rattle.smk_world.specs.Trees.{Path}
 use Rattle.smk_trigger.specs.declared.reason.Reason.{Reason}
@@ -16,13 +16,8 @@ use Rattle.smk_plan_states.specs.declared.ranks.Rank.TheVariants.{Open as AtOpen
 use Rattle.smk_plan_states.specs.declared.rows.Rows.{Rows}
 use Rattle.smk_plan_states.specs.declared.spots.Spot.{Spot}
 use Rattle.smk_plan_states.specs.Ranks.{rank_at, by_rank, is_open_rank, is_dirty_rank, is_clean_rank, is_to_run_rank, rank_while_running, unless_needed_rank}
-use Rattle.smk_plan_states.specs.Rows.{lent}
+use Rattle.smk_plan_states.specs.Rows.{has_any, lent}
 use Rattle.smk_plan_states.specs.Spots.{maker_at, spot_in, is_ready_spot, is_over_ready}
-
--- the list has an element
-abbrev pub has_any : {A : Type 0} → List A → Bool
-has_any [] = false
-has_any (x ∷ xs) = true
 
 -- ## Open
 
@@ -105,15 +100,15 @@ is_lacking e = is_clean_rank e.0 && lacks e.1
 -- ## The passes
 
 -- the rank by the table, where what only jobs that are to run want back doesn't count
-abbrev pub table_rank : List Rank → List Origin → Rows → Line → ℕ → Bool → Rank
-table_rank ranks origins rows line number used =
+abbrev pub table_rank : List Rank → List Origin → Rows → List (List Reason) → Line → ℕ → Bool → Rank
+table_rank ranks origins rows reasons line number used =
     if opens_by ranks (spot_in origins rows) line then AtOpen
-    else by_rank (dirties_by ranks origins (slice_index_or (lent rows.reasons.now) number []) line) (is_kept_by line.outputs (slice_index_or (lent rows.outputs.now) number []) && not used)
+    else by_rank (dirties_by ranks origins (slice_index_or reasons number []) line) (is_kept_by line.outputs (slice_index_or (lent rows.outputs.now) number []) && not used)
 
 -- the same, but for a job whose child runs
-abbrev pub first_rank : List Rank → List Origin → Rows → Line → ℕ → Bool → Rank
-first_rank ranks origins rows line number used =
-    rank_while_running (slice_index_or rows.running.now number None) (table_rank ranks origins rows line number used)
+abbrev pub first_rank : List Rank → List Origin → Rows → List (List Reason) → Line → ℕ → Bool → Rank
+first_rank ranks origins rows reasons line number used =
+    rank_while_running (slice_index_or rows.running.now number None) (table_rank ranks origins rows reasons line number used)
 
 -- the last rank from the first
 abbrev pub last_rank : List Bool → Rows → Line → ℕ → Bool → Rank → Rank

@@ -1,6 +1,6 @@
 -- What is kept of the ranks of jobs between two steps, by numbers alone.
 use Rattle.std.specs.Prelude.{◌≡◌, ◌<◌, ℕ, Bool, false, List, Option, Some, None, zip, length, slice_index_or}
-use Rattle.std.specs.List.{list_any, slice_get}
+use Rattle.std.specs.List.{list_any}
 use Rattle.smk_trigger.specs.declared.reason.State.{State}
 use Rattle.smk_plan_states.specs.declared.ranks.Rank.{Rank}
 use Rattle.smk_plan_states.specs.declared.lines.Line.{Line}
@@ -9,7 +9,10 @@ use Rattle.smk_plan_states.specs.declared.standing.Last.{Last}
 use Rattle.smk_plan_states.specs.declared.standing.Ranking.{Ranking}
 use Rattle.smk_plan_states.specs.declared.table.Table.{Table}
 use Rattle.smk_plan_states.specs.Ranking.{is_lacking, is_read_by_child}
-use Rattle.smk_plan_states.specs.Stays.{Told, AreAfter, AreFirst, AreRowsBut, states_told}
+use Rattle.smk_trigger.specs.declared.reason.Reason.{Reason}
+use Rattle.smk_plan_states.specs.declared.rows.Rows.{Rows}
+use Rattle.smk_plan_states.specs.Rows.{FitOwn, lent}
+use Rattle.smk_plan_states.specs.Stays.{Told, told_by, AreAfter, AreFirst, AreRowsBut, states_told}
 
 -- The ranks of the first pass are told by themselves, and it is told from which jobs the children of others read; where none that is Clean lacks an output, the
 -- last ranks are those.
@@ -24,9 +27,12 @@ pub record IsStanding (lines : List Line) (origins : List Origin) (rows : Told) 
 
 -- The ranks have gone on by a step of the job: none has changed but maybe that of the job, and no job that is Clean lacks an output.
 pub record HasGone
-    (lines : List Line) (origins : List Origin) (rows : Told) (used doubts : List Bool) (job : ℕ) (ranks now : List Rank) : Type 0 where
-  pub after : AreAfter lines origins rows used doubts job ranks now
-  pub whole : list_any is_lacking (zip now rows.outputs) ≡ false
+    (lines : List Line) (origins : List Origin) (rows : Rows) (used doubts : List Bool) (job : ℕ) (ranks now : List Rank) : Type 0 where
+  pub after :
+      (reasons : List (List Reason)) (forced : List Bool) → FitOwn rows.own.now reasons →
+      AreAfter lines origins (told_by rows reasons forced) used doubts job ranks now
+  pub within : job < length lines
+  pub whole : list_any is_lacking (zip now (lent rows.outputs.now)) ≡ false
   pub each : length now ≡ length lines
 
 -- What is told now came by a step from what was told when the ranks were kept: all but the job's and its readers' rows are as they were.

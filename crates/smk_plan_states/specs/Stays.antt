@@ -2,6 +2,7 @@
 use Rattle.std.specs.Prelude.{◌≡◌, ◌<◌, ℕ, suc, Bool, false, true, ◌==◌, ◌||◌, ◌&&◌, not, if◌then◌else◌, ◌++◌, List, [], ◌∷◌, map, length, take, Option, Some, None, slice_index_or}
 use Rattle.std.specs.List.{list_any, slice_get}
 use Rattle.smk_world.specs.Trees.{Each}
+use Rattle.smk_chain.specs.declared.jobs.Jobs.{Jobs}
 use Rattle.smk_trigger.specs.declared.reason.Reason.{Reason}
 use Rattle.smk_trigger.specs.declared.reason.Reason.TheVariants.{Upstream, Forced}
 use Rattle.smk_trigger.specs.declared.reason.State.{State}
@@ -14,7 +15,8 @@ use Rattle.smk_plan_states.specs.declared.ranks.Rank.{Rank}
 use Rattle.smk_plan_states.specs.declared.ranks.Rank.TheVariants.{Open as AtOpen}
 use Rattle.smk_plan_states.specs.declared.rows.Rows.{Rows}
 use Rattle.smk_plan_states.specs.declared.spots.Spot.{Spot}
-use Rattle.smk_plan_states.specs.Rows.{lent}
+use Rattle.smk_plan_states.specs.Judged.{Judging}
+use Rattle.smk_plan_states.specs.Rows.{lent, reasons_at, forced_at}
 use Rattle.smk_plan_states.specs.Ranks.{by_rank, rank_while_running, state_by}
 use Rattle.smk_plan_states.specs.Spots.{maker_at, spot_at}
 use Rattle.smk_plan_states.specs.Ranking.{dirties_by, is_kept_by, is_link, opens_by, upstream_paths}
@@ -27,15 +29,20 @@ pub record Told : Type 0 where
   pub forced : List Bool
   pub running : List (Option State)
 
-abbrev pub told_by : Rows → Told
-told_by rows =
+-- by rows, where the jobs have these reasons and these are forced
+abbrev pub told_by : Rows → List (List Reason) → List Bool → Told
+told_by rows reasons forced =
     record {
       outputs = lent rows.outputs.now;
       makers = rows.makers.now;
-      reasons = lent rows.reasons.now;
-      forced = rows.forced.now;
+      reasons = reasons;
+      forced = forced;
       running = rows.running.now;
     }
+
+-- by rows, where the jobs are judged so
+abbrev pub told_at : Judging → Jobs → Rows → Told
+told_at at jobs rows = told_by rows (reasons_at at jobs) (forced_at at jobs)
 
 -- what is told of the path of the link
 abbrev pub spot_told : List Origin → Told → Option ℕ → Option Spot

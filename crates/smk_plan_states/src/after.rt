@@ -1,11 +1,14 @@
 //! The ranks of the jobs after a step of one of them, where no other rank changes.
 
-ghost use Rattle.std.specs.Prelude.{◌≡◌, ◌<◌, ◌==◌, ◌||◌, ℕ, length, slice_index_or, Some, true, false, IfOk, IfSome};
+ghost use Rattle.std.specs.Prelude.{◌≡◌, ◌<◌, ◌==◌, ◌||◌, ℕ, Bool, List as Items, length, slice_index_or, Some, true, false, IfOk, IfSome};
 ghost use Rattle.std.specs.List.{slice_get};
 ghost use Rattle.smk_plan_states.specs.declared.lines.Line.{Line as LineValue};
+ghost use Rattle.smk_trigger.specs.declared.reason.Reason.{Reason as ReasonValue};
+ghost use Rattle.smk_plan_states.specs.Rows.{FitOwn};
 ghost use Rattle.smk_plan_states.specs.Stays.{rank_told, told_by, AreAfter, IsApart, has_number};
 
 use crate::downward::{set_at, unset};
+use crate::lack::Lack;
 use crate::lines::{Line, Origin};
 use crate::ranks::Rank;
 use crate::rows::Rows;
@@ -64,15 +67,17 @@ fn is_told(
     used: &[bool],
     doubts: &[bool],
     ranks: &[Rank],
-) -> bool
-    ensures { result ≡ true → slice_index_or doubts.now number false ≡ true
-        → slice_get ranks.now number ≡ Some (rank_told ranks.now origins.now (told_by rows.now) line.now number (slice_index_or used.now number false)) }
+) -> Result<bool, Lack>
+    ensures { IfOk result (λ told. told ≡ true → (reasons : Items (Items ReasonValue)) (forced : Items Bool) → FitOwn rows.now.own.now reasons
+        → slice_index_or doubts.now number false ≡ true → slice_get ranks.now number ≡ Some (rank_told ranks.now origins.now (told_by rows.now reasons forced) line.now number (slice_index_or used.now number false))) }
 {
     if !flag_at(doubts, number) {
-        return true;
+        return Ok(true);
     }
-    let rank = first_rank(ranks, origins, rows, line, number, flag_at(used, number));
-    is_rank(ranks, number, rank)
+    let Some(rank) = first_rank(ranks, origins, rows, line, number, flag_at(used, number)) else {
+        return Err(Lack::Own(number));
+    };
+    Ok(is_rank(ranks, number, rank))
 }
 
 // Whether each job that is doubted has the rank that it has by these ranks.
@@ -83,16 +88,17 @@ fn are_told(
     used: &[bool],
     doubts: &[bool],
     ranks: &[Rank],
-) -> bool
-    ensures { result ≡ true → (n : ℕ) (line : LineValue) → slice_get lines.now n ≡ Some line → slice_index_or doubts.now n false ≡ true
-        → slice_get ranks.now n ≡ Some (rank_told ranks.now origins.now (told_by rows.now) line n (slice_index_or used.now n false)) }
+) -> Result<bool, Lack>
+    ensures { IfOk result (λ told. told ≡ true → (reasons : Items (Items ReasonValue)) (forced : Items Bool) → FitOwn rows.now.own.now reasons
+        → (n : ℕ) (line : LineValue) → slice_get lines.now n ≡ Some line → slice_index_or doubts.now n false ≡ true
+        → slice_get ranks.now n ≡ Some (rank_told ranks.now origins.now (told_by rows.now reasons forced) line n (slice_index_or used.now n false))) }
 {
     for (number, line) in lines.iter().enumerate() {
-        if !is_told(line, number, origins, rows, used, doubts, ranks) {
-            return false;
+        if !is_told(line, number, origins, rows, used, doubts, ranks)? {
+            return Ok(false);
         }
     }
-    true
+    Ok(true)
 }
 
 /// What is doubted after a step of the job: itself, its readers, those that watch it, and each of which a child reads that didn't, or no longer.
@@ -132,7 +138,8 @@ fn with_rank(
     Ok(found)
 }
 
-/// The ranks of the first pass after the step, where none changes but maybe that of the job.
+/// The ranks of the first pass after the step, where none changes but maybe that of the job. `Lack::Own` where a rank hangs on the reasons of a job of which nothing is
+/// known.
 pub(crate) fn ranks_after(
     alloc: Global,
     lines: &[Line],
@@ -142,15 +149,19 @@ pub(crate) fn ranks_after(
     doubts: &[bool],
     job: usize,
     before: &[Rank],
-) -> Result<Option<Vec<Rank>>, OutOfMemory>
-    ensures { IfOk result (λ found. IfSome found (λ ranks. AreAfter lines.now origins.now (told_by rows.now) used.now doubts.now job before.now ranks.items)) }
+) -> Result<Option<Vec<Rank>>, Lack>
+    ensures within { IfOk result (λ found. IfSome found (λ ranks. job < length lines.now)) }
+    ensures after { IfOk result (λ found. IfSome found (λ ranks. (reasons : Items (Items ReasonValue)) (forced : Items Bool) → FitOwn rows.now.own.now reasons
+        → AreAfter lines.now origins.now (told_by rows.now reasons forced) used.now doubts.now job before.now ranks.items)) }
 {
     let Some(line) = lines.get(job) else {
         return Ok(None);
     };
-    let rank = first_rank(before, origins, rows, line, job, flag_at(used, job));
+    let Some(rank) = first_rank(before, origins, rows, line, job, flag_at(used, job)) else {
+        return Err(Lack::Own(job));
+    };
     let ranks = with_rank(alloc, before, job, rank)?;
-    if are_told(lines, origins, rows, used, doubts, ranks.as_slice()) {
+    if are_told(lines, origins, rows, used, doubts, ranks.as_slice())? {
         return Ok(Some(ranks));
     }
     Ok(None)

@@ -4,6 +4,7 @@ ghost use Rattle.std.specs.Prelude.{◌≡◌, ◌++◌, map, option_map, slice_
 ghost use Rattle.smk_trigger.specs.Reasons.{when};
 ghost use Rattle.smk_plan_states.specs.Ranks.{plain_state};
 ghost use Rattle.smk_plan_states.specs.Ranking.{is_upstream, upstream_paths};
+ghost use Rattle.smk_plan_states.specs.Rows.{lent};
 ghost use Rattle.smk_plan_states.specs.Stays.{alone_in, state_told, state_with, states_told, told_by};
 
 use crate::lines::{Input, Line, Origin};
@@ -189,9 +190,11 @@ fn state_told(
     number: usize,
     origins: &[Origin],
     rows: &Rows<'_>,
+    reasons: &[&List<Reason>],
+    forced: &[bool],
     ranks: &[Rank],
 ) -> Result<State, OutOfMemory>
-    ensures { IfOk result (λ state. state ≡ state_told origins.now (told_by rows.now) ranks.now number line.now) }
+    ensures { IfOk result (λ state. state ≡ state_told origins.now (told_by rows.now (lent reasons.now) forced.now) ranks.now number line.now) }
 {
     state_with(
         alloc,
@@ -200,8 +203,8 @@ fn state_told(
         ranks,
         origins,
         line.inputs.as_slice(),
-        row_at(rows.reasons, number),
-        flag_at(rows.forced, number),
+        row_at(reasons, number),
+        flag_at(forced, number),
     )
 }
 
@@ -211,13 +214,15 @@ pub(crate) fn states_of(
     lines: &[Line],
     origins: &[Origin],
     rows: &Rows<'_>,
+    reasons: &[&List<Reason>],
+    forced: &[bool],
     ranks: &[Rank],
 ) -> Result<List<State>, OutOfMemory>
-    ensures { IfOk result (λ states. states ≡ states_told lines.now origins.now (told_by rows.now) ranks.now) }
+    ensures { IfOk result (λ states. states ≡ states_told lines.now origins.now (told_by rows.now (lent reasons.now) forced.now) ranks.now) }
 {
     let mut found = List::new(alloc);
     for (number, line) in lines.iter().enumerate() {
-        let state = state_told(alloc, line, number, origins, rows, ranks)?;
+        let state = state_told(alloc, line, number, origins, rows, reasons, forced, ranks)?;
         found.push(state)?;
     }
     Ok(found)

@@ -1,6 +1,6 @@
 //! What is kept of the ranks of jobs between two steps.
 
-ghost use Rattle.std.specs.Prelude.{◌≡◌, ◌<◌, ℕ, List as Items, length, map, slice_index_or, Some, true, false, IfOk, IfSome};
+ghost use Rattle.std.specs.Prelude.{◌≡◌, ◌<◌, ℕ, Bool, List as Items, length, map, slice_index_or, Some, true, false, IfOk, IfSome};
 ghost use Rattle.std.specs.List.{list_any, slice_get, zip};
 ghost use Rattle.smk_plan_states.specs.declared.lines.Line.{Line as LineValue};
 ghost use Rattle.smk_chain.specs.declared.jobs.Jobs.{Jobs as JobsValue};
@@ -10,17 +10,18 @@ ghost use Rattle.smk_plan_states.specs.First.{first_states};
 ghost use Rattle.smk_plan_states.specs.Moment.{IsMoment};
 ghost use Rattle.smk_plan_states.specs.Ranks.{rank_of};
 ghost use Rattle.smk_plan_states.specs.Ranking.{is_lacking, is_read_by_child};
-ghost use Rattle.smk_plan_states.specs.Rows.{lent};
+ghost use Rattle.smk_trigger.specs.declared.reason.Reason.{Reason as ReasonValue};
+ghost use Rattle.smk_plan_states.specs.Rows.{FitOwn, lent};
 ghost use Rattle.smk_plan_states.specs.Stays.{AreEarlier, AreRowsBut, Told, has_number, reads_of, told_by};
 ghost use Rattle.smk_plan_states.specs.Standing.{HasGone, IsStanding};
 
 use crate::after::{doubts_of, ranks_after};
 use crate::downward::{any_lacking, last_ranks};
+use crate::lack::Lack;
 use crate::lines::{Line, Origin};
 use crate::ranks::Rank;
 use crate::rows::Rows;
 use crate::upward::first_ranks;
-use smk_base::OutOfMemory;
 use std::alloc::Global;
 
 /// The ranks of jobs, with what is kept of them for the next step of a run.
@@ -52,21 +53,22 @@ impl Ranking {
     }
 }
 
-/// The ranks, told of all jobs in two passes.
+/// The ranks, told of all jobs in two passes. `Lack::Own` where one hangs on the reasons of a job of which nothing is known.
 pub(crate) fn rank_all(
     alloc: Global,
     lines: &[Line],
     origins: &[Origin],
     rows: &Rows<'_>,
     used: Vec<bool>,
-) -> Result<Ranking, OutOfMemory>
+) -> Result<Ranking, Lack>
     ensures used { IfOk result (λ r. r.used ≡ used) }
     ensures each { IfOk result (λ r. length r.last.items ≡ length lines.now) }
     ensures ranks { IfOk result (λ r. (at : Judging) (jobs : JobsValue) (states : Items StateValue)
         → IsMoment at jobs states lines.now origins.now rows.now used.items → r.last.items ≡ map rank_of states) }
-    ensures standing { IfOk result (λ r. AreEarlier lines.now origins.now → length used.items ≡ length lines.now
+    ensures standing { IfOk result (λ r. (reasons : Items (Items ReasonValue)) (forced : Items Bool) → FitOwn rows.now.own.now reasons
+        → AreEarlier lines.now origins.now → length used.items ≡ length lines.now
         → ((n : ℕ) → n < length lines.now → slice_index_or used.items n false ≡ is_read_by_child lines.now origins.now rows.now.running.now n)
-        → IsStanding lines.now origins.now (told_by rows.now) r) }
+        → IsStanding lines.now origins.now (told_by rows.now reasons forced) r) }
 {
     let first = first_ranks(alloc, lines, origins, rows, used.as_slice())?;
     let lacking = any_lacking(first.as_slice(), rows.outputs);
@@ -90,6 +92,13 @@ pub struct Last<'l> {
     pub readers: &'l [usize],
 }
 
+// Whether there is a rank for each line.
+fn is_for_each(ranks: &[Rank], lines: &[Line]) -> bool
+    ensures { result ≡ true → length ranks.now ≡ length lines.now }
+{
+    ranks.len() == lines.len()
+}
+
 // The ranks after the step of the job, where none of the first pass changes but maybe that of the job, and no job that is Clean lacks an output.
 fn go_on(
     alloc: Global,
@@ -100,13 +109,16 @@ fn go_on(
     doubts: &[bool],
     job: usize,
     ranks: &[Rank],
-) -> Result<Option<Vec<Rank>>, OutOfMemory>
-    ensures { IfOk result (λ found. IfSome found (λ now. HasGone lines.now origins.now (told_by rows.now) used.now doubts.now job ranks.now now.items)) }
+) -> Result<Option<Vec<Rank>>, Lack>
+    ensures { IfOk result (λ found. IfSome found (λ now. HasGone lines.now origins.now rows.now used.now doubts.now job ranks.now now.items)) }
 {
     let Some(first) = ranks_after(alloc, lines, origins, rows, used, doubts, job, ranks)? else {
         return Ok(None);
     };
-    if first.len() != lines.len() || any_lacking(first.as_slice(), rows.outputs) {
+    if !is_for_each(first.as_slice(), lines) {
+        return Ok(None);
+    }
+    if any_lacking(first.as_slice(), rows.outputs) {
         return Ok(None);
     }
     Ok(Some(first))
@@ -121,14 +133,15 @@ pub(crate) fn rank_after(
     used: Vec<bool>,
     watchers: &[usize],
     last: Last<'_>,
-) -> Result<Option<Ranking>, OutOfMemory>
+) -> Result<Option<Ranking>, Lack>
     ensures kept { IfOk result (λ found. IfSome found (λ r. (r.used ≡ used) × (r.lacking ≡ false) × (length r.last.items ≡ length lines.now) × (last.entry.job < length lines.now))) }
-    ensures standing { IfOk result (λ found. IfSome found (λ r. (before : Told)
-        → IsStanding lines.now origins.now before last.entry.ranking.now → AreRowsBut origins.now last.entry.job last.entry.readers.now before (told_by rows.now)
+    ensures standing { IfOk result (λ found. IfSome found (λ r. (reasons : Items (Items ReasonValue)) (forced : Items Bool) → FitOwn rows.now.own.now reasons
+        → (before : Told)
+        → IsStanding lines.now origins.now before last.entry.ranking.now → AreRowsBut origins.now last.entry.job last.entry.readers.now before (told_by rows.now reasons forced)
         → ((n : ℕ) (line : LineValue) → slice_get lines.now n ≡ Some line → reads_of origins.now last.entry.job line ≡ true → has_number n watchers.now ≡ true)
         → length used.items ≡ length lines.now
         → ((n : ℕ) → n < length lines.now → slice_index_or used.items n false ≡ is_read_by_child lines.now origins.now rows.now.running.now n)
-        → IsStanding lines.now origins.now (told_by rows.now) r)) }
+        → IsStanding lines.now origins.now (told_by rows.now reasons forced) r)) }
 {
     let ranking = last.ranking;
     if ranking.lacking {

@@ -1,22 +1,24 @@
 //! The table of states: how the paths of jobs and targets hang together, by numbers, and the states of the jobs by it.
 
-ghost use Rattle.std.specs.Prelude.{◌≡◌, List as Items, length, map, option_map, slice_index_or, Some, None, false, [], IfOk};
+ghost use Rattle.std.specs.Prelude.{◌≡◌, Bool, List as Items, length, map, option_map, slice_index_or, Some, None, false, [], IfOk};
 ghost use Rattle.smk_world.specs.Trees.{Path};
 ghost use Rattle.smk_chain.specs.declared.jobs.Jobs.{Jobs as JobsValue};
 ghost use Rattle.smk_plan.specs.States.{is_read_now};
+ghost use Rattle.smk_trigger.specs.declared.reason.Reason.{Reason as ReasonValue};
 ghost use Rattle.smk_trigger.specs.declared.reason.State.{State as StateValue};
 ghost use Rattle.smk_plan_states.specs.Judged.{Judging, AreStates, any_held_back, began, new_directories, targets_ready, with_states};
 ghost use Rattle.smk_plan_states.specs.Ranks.{rank_of};
-ghost use Rattle.smk_plan_states.specs.Rows.{AreRowsAt};
+ghost use Rattle.smk_plan_states.specs.Rows.{AreRowsAt, FitOwn, lent};
 ghost use Rattle.smk_plan_states.specs.Served.{AreServed};
 ghost use Rattle.smk_plan_states.specs.Standing.{FollowsBy, StandsBy, states_by};
 ghost use Rattle.std.specs.List.{slice_get};
-ghost use Rattle.smk_plan_states.specs.Stays.{AreWatched, Told, told_by};
+ghost use Rattle.smk_plan_states.specs.Stays.{AreWatched, Told, told_at, told_by};
 ghost use Rattle.smk_plan_states.specs.Tables.{IsTableAt, IsTableOf};
 
 use crate::awaits::{each_once, spot_paths, spots_in};
 use crate::holding::any_held;
 use crate::in_use::used_in;
+use crate::lack::Lack;
 use crate::lines::{Awaited, Line, Origin, Target};
 use crate::making::{Wants, lines_of, origins_of, targets_of};
 use crate::ranks::Rank;
@@ -120,19 +122,15 @@ impl Table {
     }
 
     // The ranks after the step, or told anew where another one may change.
-    fn rank_on(
-        &self,
-        alloc: Global,
-        rows: &Rows<'_>,
-        last: Last<'_>,
-    ) -> Result<Ranking, OutOfMemory>
+    fn rank_on(&self, alloc: Global, rows: &Rows<'_>, last: Last<'_>) -> Result<Ranking, Lack>
         ensures each { IfOk result (λ r. length r.last.items ≡ length self.now.lines) }
         ensures standing { IfOk result (λ r. (jobs : JobsValue) (targets : Items Path) → IsTableOf jobs targets self.now → AreServed jobs targets
-            → FollowsBy self.now (Some last.entry) (told_by rows.now) → StandsBy self.now (told_by rows.now) r) }
+            → (reasons : Items (Items ReasonValue)) (forced : Items Bool) → FitOwn rows.now.own.now reasons
+            → FollowsBy self.now (Some last.entry) (told_by rows.now reasons forced) → StandsBy self.now (told_by rows.now reasons forced) r) }
         ensures ranks { IfOk result (λ r. (at : Judging) (jobs : JobsValue) → IsTableAt at jobs self.now → AreRowsAt at jobs rows.now
-            → FollowsBy self.now (Some last.entry) (told_by rows.now) → (states : Items StateValue) → AreStates at jobs states → r.last.items ≡ map rank_of states) }
+            → FollowsBy self.now (Some last.entry) (told_at at jobs rows.now) → (states : Items StateValue) → AreStates at jobs states → r.last.items ≡ map rank_of states) }
         ensures table { IfOk result (λ r. (at : Judging) (jobs : JobsValue) → IsTableAt at jobs self.now → AreRowsAt at jobs rows.now
-            → FollowsBy self.now (Some last.entry) (told_by rows.now) → AreStates at jobs (states_by self.now (told_by rows.now) r)) }
+            → FollowsBy self.now (Some last.entry) (told_at at jobs rows.now) → AreStates at jobs (states_by self.now (told_at at jobs rows.now) r)) }
     {
         let lines = self.lines.as_slice();
         let origins = self.origins.as_slice();
@@ -145,14 +143,15 @@ impl Table {
     }
 
     // The ranks, told anew of all jobs.
-    fn rank_anew(&self, alloc: Global, rows: &Rows<'_>) -> Result<Ranking, OutOfMemory>
+    fn rank_anew(&self, alloc: Global, rows: &Rows<'_>) -> Result<Ranking, Lack>
         ensures each { IfOk result (λ r. length r.last.items ≡ length self.now.lines) }
         ensures standing { IfOk result (λ r. (jobs : JobsValue) (targets : Items Path) → IsTableOf jobs targets self.now → AreServed jobs targets
-            → StandsBy self.now (told_by rows.now) r) }
+            → (reasons : Items (Items ReasonValue)) (forced : Items Bool) → FitOwn rows.now.own.now reasons
+            → StandsBy self.now (told_by rows.now reasons forced) r) }
         ensures ranks { IfOk result (λ r. (at : Judging) (jobs : JobsValue) → IsTableAt at jobs self.now → AreRowsAt at jobs rows.now
             → (states : Items StateValue) → AreStates at jobs states → r.last.items ≡ map rank_of states) }
         ensures table { IfOk result (λ r. (at : Judging) (jobs : JobsValue) → IsTableAt at jobs self.now → AreRowsAt at jobs rows.now
-            → AreStates at jobs (states_by self.now (told_by rows.now) r)) }
+            → AreStates at jobs (states_by self.now (told_at at jobs rows.now) r)) }
     {
         let lines = self.lines.as_slice();
         let origins = self.origins.as_slice();
@@ -161,7 +160,8 @@ impl Table {
         Ok(ranking)
     }
 
-    /// The rank of each job, by the table of states, with what is kept for the next step. `OutOfMemory` where there is no memory for them.
+    /// The rank of each job, by the table of states, with what is kept for the next step. `Lack::Own` where one hangs on the reasons of a job of which nothing is known: a job
+    /// above which one is Dirty is so whatever its reasons are. `Lack::Memory` where there is no memory for them.
     ///
     /// A job that began Dirty stays so while its child runs, and one that began as a Restore isn't Clean. A Restore counts as Clean while a child
     /// reads what it made. The time is linear in the jobs with their inputs and outputs. Where what was kept before a step of one job is given, and no other
@@ -171,14 +171,15 @@ impl Table {
         alloc: Global,
         rows: &Rows<'_>,
         last: Option<Last<'_>>,
-    ) -> Result<Ranking, OutOfMemory>
+    ) -> Result<Ranking, Lack>
         ensures each { IfOk result (λ r. (jobs : JobsValue) (targets : Items Path) → IsTableOf jobs targets self.now → length r.last.items ≡ length jobs.jobs) }
         ensures standing { IfOk result (λ r. (jobs : JobsValue) (targets : Items Path) → IsTableOf jobs targets self.now → AreServed jobs targets
-            → FollowsBy self.now last.entry (told_by rows.now) → StandsBy self.now (told_by rows.now) r) }
+            → (reasons : Items (Items ReasonValue)) (forced : Items Bool) → FitOwn rows.now.own.now reasons
+            → FollowsBy self.now last.entry (told_by rows.now reasons forced) → StandsBy self.now (told_by rows.now reasons forced) r) }
         ensures ranks { IfOk result (λ r. (at : Judging) (jobs : JobsValue) → IsTableAt at jobs self.now → AreRowsAt at jobs rows.now
-            → FollowsBy self.now last.entry (told_by rows.now) → (states : Items StateValue) → AreStates at jobs states → r.last.items ≡ map rank_of states) }
+            → FollowsBy self.now last.entry (told_at at jobs rows.now) → (states : Items StateValue) → AreStates at jobs states → r.last.items ≡ map rank_of states) }
         ensures table { IfOk result (λ r. (at : Judging) (jobs : JobsValue) → IsTableAt at jobs self.now → AreRowsAt at jobs rows.now
-            → FollowsBy self.now last.entry (told_by rows.now) → AreStates at jobs (states_by self.now (told_by rows.now) r)) }
+            → FollowsBy self.now last.entry (told_at at jobs rows.now) → AreStates at jobs (states_by self.now (told_at at jobs rows.now) r)) }
     {
         match last {
             None => self.rank_anew(alloc, rows),
@@ -186,20 +187,24 @@ impl Table {
         }
     }
 
-    /// The states of the jobs by their ranks. `OutOfMemory` where there is no memory for them.
+    /// The states of the jobs by their ranks, where they have these reasons, Forced at the end of those that are forced. `OutOfMemory` where there is no memory for them.
     pub fn states(
         &self,
         alloc: Global,
         rows: &Rows<'_>,
+        reasons: &[&List<Reason>],
+        forced: &[bool],
         ranking: &Ranking,
     ) -> Result<List<State>, OutOfMemory>
-        ensures { IfOk result (λ states. states ≡ states_by self.now (told_by rows.now) ranking.now) }
+        ensures { IfOk result (λ states. states ≡ states_by self.now (told_by rows.now (lent reasons.now) forced.now) ranking.now) }
     {
         let states = states_of(
             alloc,
             self.lines.as_slice(),
             self.origins.as_slice(),
             rows,
+            reasons,
+            forced,
             ranking.ranks(),
         )?;
         Ok(states)
@@ -296,7 +301,7 @@ impl Table {
         ranking: &Ranking,
     ) -> Result<bool, OutOfMemory>
         ensures { IfOk result (λ held. (at : Judging) (jobs : JobsValue) (states : Items StateValue) → IsTableAt at jobs self.now → AreRowsAt at jobs rows.now
-            → StandsBy self.now (told_by rows.now) ranking.now → AreStates at jobs states → ranking.now.last.items ≡ map rank_of states → held ≡ any_held_back at jobs states) }
+            → StandsBy self.now (told_at at jobs rows.now) ranking.now → AreStates at jobs states → ranking.now.last.items ≡ map rank_of states → held ≡ any_held_back at jobs states) }
     {
         let lines = self.lines.as_slice();
         let origins = self.origins.as_slice();

@@ -5,3 +5,4 @@ mod Idle
 mod Doubted
 mod Assembled
 pub mod Linked
+mod Lent

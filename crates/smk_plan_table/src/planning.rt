@@ -5,15 +5,12 @@ ghost use Rattle.smk_world.specs.Trees.{Path};
 ghost use Rattle.smk_store.specs.Images.{Image};
 ghost use Rattle.smk_chain.specs.declared.jobs.Jobs.{Jobs as JobsValue};
 ghost use Rattle.smk_plan_states.specs.Judged.{AreStates};
-ghost use Rattle.smk_plan_states.specs.Rows.{AreRowsAt};
-ghost use Rattle.smk_plan_states.specs.Served.{AreServed};
+ghost use Rattle.smk_plan_states.specs.Rows.{AreRowsAt, lent};
 ghost use Rattle.smk_trigger.specs.declared.reason.State.{State as StateValue};
 ghost use Rattle.smk_plan_states.specs.Ranks.{rank_of};
-ghost use Rattle.smk_plan_states.specs.Standing.{FollowsBy, StandsBy, states_by};
 ghost use Rattle.smk_plan_states.specs.Stays.{told_by};
 ghost use Rattle.smk_plan_states.specs.Tables.{IsTableAt, IsTableOf};
-ghost use Rattle.smk_plan_table.specs.Bases.{IsBasisAt};
-ghost use Rattle.smk_plan_table.specs.Parts.{shown};
+ghost use Rattle.smk_plan_table.specs.Bases.{IsBasisAt, IsLentOf};
 ghost use Rattle.smk_plan_table.specs.Plans.{Agree, HasMade, HasMadeAt, IsGiven, IsRefused, IsRefusedAt, WhereAgreed, listings_known, targets_current, plan_by};
 
 use crate::current::current;
@@ -26,7 +23,7 @@ use smk_base::{List, OutOfMemory, PathText};
 use smk_chain::{Jobs, Listings};
 use smk_pick::Settings;
 use smk_plan::{Loaded, Plan, PlanFault, Seen, Told};
-use smk_plan_states::{Last, Ranking, Rows, Table};
+use smk_plan_states::{Own, Ranking, Rows, Table, own_flags};
 use smk_store::Store;
 use smk_trigger::Reason;
 use std::alloc::Global;
@@ -75,8 +72,20 @@ fn tell<T: Told>(
     })
 }
 
-// The plan of jobs of these ranks, or the first thing that is refused of it.
-fn plan_by<T: Told>(
+/// The plan of these jobs at any moment, by their table, the rows of the moment, their ranks and what is told of paths then: which targets are current, and the
+/// listings that have become known besides those with which the jobs were derived. `begun` tells for each job whether it has begun in this run, and `suspects`
+/// what may be refused of it. The states of the jobs are those by their ranks (`states` of a table).
+///
+/// What is told, and what the rows and the makers of the jobs say, is so in one image of the folder.
+///
+/// The fault is the first thing that is refused: all marked outputs of jobs whose child doesn't run, unless incomplete jobs are to be run again; the first
+/// read-only file in the way of a job that is to run and hasn't begun; the first such job that asks more of a resource than its bound, with the first such
+/// bound. `OutOfMemory` where there is no memory for the plan, or where the last of these can't be told: no number of 64 bits tells how much is asked, or the
+/// job has no output to be named by.
+///
+/// The time is linear in the jobs with their inputs and outputs, by numbers; paths are looked up only of targets that are sources and of directories that have
+/// become ready, and of the outputs of jobs where something is suspected.
+pub fn plan_now<T: Told>(
     alloc: Global,
     jobs: &Jobs,
     table: &Table,
@@ -117,85 +126,98 @@ fn plan_by<T: Told>(
     }
 }
 
-/// The plan of these jobs at any moment, by their table, the rows of the moment and what is told of paths then: their states, which targets are current, and the
-/// listings that have become known besides those with which the jobs were derived. `begun` tells for each job whether it has begun in this run, and `suspects`
-/// what may be refused of it.
-///
-/// What is told, and what the rows and the makers of the jobs say, is so in one image of the folder.
-///
-/// The fault is the first thing that is refused: all marked outputs of jobs whose child doesn't run, unless incomplete jobs are to be run again; the first
-/// read-only file in the way of a job that is to run and hasn't begun; the first such job that asks more of a resource than its bound, with the first such
-/// bound. `OutOfMemory` where there is no memory for the plan, or where the last of these can't be told: no number of 64 bits tells how much is asked, or the
-/// job has no output to be named by.
-///
-/// The time is linear in the jobs with their inputs and outputs, by numbers; paths are looked up only of targets that are sources and of directories that have
-/// become ready, and of the outputs of jobs where something is suspected.
-///
-/// `last` is what was kept before a step of one job, or nothing: then ranks are told anew only where the step changes them, if no other job's does. The states of
-/// the jobs are those by their ranks (`states` of a table).
-pub fn plan_now<T: Told>(
-    alloc: Global,
-    jobs: &Jobs,
-    table: &Table,
-    told: &T,
-    settings: &Settings,
-    rows: &Rows<'_>,
-    begun: &[bool],
-    suspects: &[Suspect],
-    last: Option<Last<'_>>,
-) -> Result<Ranked, PlanFault>
-    requires table { IsTableOf jobs.now settings.now.targets table.now }
-    ensures each { IfOk result (λ made. length made.ranking.last.items ≡ length jobs.now.jobs) }
-    ensures targets { IfOk result (λ made. length made.current ≡ length settings.now.targets) }
-    ensures standing { IfOk result (λ made. AreServed jobs.now settings.now.targets → FollowsBy table.now last.entry (told_by rows.now)
-        → StandsBy table.now (told_by rows.now) made.ranking) }
-    ensures made { IfOk result (λ made. FollowsBy table.now last.entry (told_by rows.now) → WhereAgreed jobs.now (T.known told.now) (T.seen told.now) settings.now
-        (λ at. IsGiven at jobs.now (T.known told.now) (T.seen told.now) rows.now begun.now suspects.now → HasMadeAt at jobs.now (plan_by table.now (told_by rows.now) made))) }
-    ensures ranks { IfOk result (λ made. FollowsBy table.now last.entry (told_by rows.now) → WhereAgreed jobs.now (T.known told.now) (T.seen told.now) settings.now
-        (λ at. IsGiven at jobs.now (T.known told.now) (T.seen told.now) rows.now begun.now suspects.now
-        → made.ranking.last.items ≡ map rank_of (states_by table.now (told_by rows.now) made.ranking))) }
-    ensures refused { IfErr result (λ fault. fault ≢ PlanFault.OutOfMemory → FollowsBy table.now last.entry (told_by rows.now)
-        → WhereAgreed jobs.now (T.known told.now) (T.seen told.now) settings.now
-        (λ at. IsGiven at jobs.now (T.known told.now) (T.seen told.now) rows.now begun.now suspects.now → IsRefusedAt at jobs.now fault)) }
-{
-    match table.rank(alloc, rows, last) {
-        Err(_) => Err(PlanFault::OutOfMemory),
-        Ok(ranking) => plan_by(
-            alloc, jobs, table, told, settings, rows, begun, suspects, ranking,
-        ),
-    }
-}
-
 // What is lent of a basis, job by job.
 #[derive(Drop)]
 struct Lent<'b> {
     outputs: Vec<&'b List<bool>>,
     reasons: Vec<&'b List<Reason>>,
+    own: Vec<Own>,
 }
 
 // What the basis lends.
 fn lend<'b>(alloc: Global, basis: &'b Basis) -> Result<Lent<'b>, OutOfMemory>
-    ensures outputs { IfOk result (λ made. shown made.outputs.items ≡ basis.now.wholes.outputs) }
-    ensures reasons { IfOk result (λ made. shown made.reasons.items ≡ basis.now.judged.reasons) }
+    ensures { IfOk result (λ made. IsLentOf made basis.now) }
 {
     let outputs = references(alloc, basis.wholes.outputs.as_slice())?;
     let reasons = references(alloc, basis.judged.reasons.as_slice())?;
-    Ok(Lent { outputs, reasons })
+    let own = own_flags(alloc, basis.judged.reasons.as_slice())?;
+    Ok(Lent {
+        outputs,
+        reasons,
+        own,
+    })
 }
 
 // The plan with the states of the jobs.
-fn spell(alloc: Global, table: &Table, rows: &Rows<'_>, made: Ranked) -> Result<Plan, PlanFault>
-    ensures ok { IfOk result (λ plan. plan ≡ plan_by table.now (told_by rows.now) made) }
+fn spell(
+    alloc: Global,
+    table: &Table,
+    rows: &Rows<'_>,
+    reasons: &[&List<Reason>],
+    forced: &[bool],
+    made: Ranked,
+) -> Result<Plan, PlanFault>
+    ensures ok { IfOk result (λ plan. plan ≡ plan_by table.now (told_by rows.now (lent reasons.now) forced.now) made) }
     ensures each { IfOk result (λ plan. (jobs : JobsValue) (targets : Items Path) → IsTableOf jobs targets table.now → length plan.states ≡ length jobs.jobs) }
     ensures err { IfErr result (λ fault. fault ≡ PlanFault.OutOfMemory) }
 {
-    match table.states(alloc, rows, &made.ranking) {
+    match table.states(alloc, rows, reasons, forced, &made.ranking) {
         Err(_) => Err(PlanFault::OutOfMemory),
         Ok(states) => Ok(Plan {
             states,
             current: made.current,
             known: made.known,
         }),
+    }
+}
+
+// The plan of jobs by what is lent of them, where none runs.
+fn plan_lent<T: Told>(
+    alloc: Global,
+    jobs: &Jobs,
+    told: &T,
+    settings: &Settings,
+    basis: &Basis,
+    lent: &Lent<'_>,
+) -> Result<Plan, PlanFault>
+    requires table { IsTableOf jobs.now settings.now.targets basis.now.table }
+    requires lent { IsLentOf lent.now basis.now }
+    ensures each { IfOk result (λ made. length made.states ≡ length jobs.now.jobs) }
+    ensures targets { IfOk result (λ made. length made.current ≡ length settings.now.targets) }
+    ensures made { IfOk result (λ made. WhereAgreed jobs.now (T.known told.now) (T.seen told.now) settings.now
+        (λ at. IsBasisAt at jobs.now (T.known told.now) (T.seen told.now) basis.now → HasMadeAt at jobs.now made)) }
+    ensures refused { IfErr result (λ fault. fault ≢ PlanFault.OutOfMemory → WhereAgreed jobs.now (T.known told.now) (T.seen told.now) settings.now
+        (λ at. IsBasisAt at jobs.now (T.known told.now) (T.seen told.now) basis.now → IsRefusedAt at jobs.now fault)) }
+{
+    let rows = Rows {
+        outputs: lent.outputs.as_slice(),
+        makers: basis.wholes.makers.as_slice(),
+        own: lent.own.as_slice(),
+        running: basis.judged.running.as_slice(),
+    };
+    match basis.table.rank(alloc, &rows, None) {
+        Err(_) => Err(PlanFault::OutOfMemory),
+        Ok(ranking) => match plan_now(
+            alloc,
+            jobs,
+            &basis.table,
+            told,
+            settings,
+            &rows,
+            basis.begun.as_slice(),
+            basis.suspects.as_slice(),
+            ranking,
+        ) {
+            Err(fault) => Err(fault),
+            Ok(made) => spell(
+                alloc,
+                &basis.table,
+                &rows,
+                lent.reasons.as_slice(),
+                basis.judged.forced.as_slice(),
+                made,
+            ),
+        },
     }
 }
 
@@ -217,29 +239,7 @@ fn plan_of<T: Told>(
 {
     match lend(alloc, basis) {
         Err(_) => Err(PlanFault::OutOfMemory),
-        Ok(lent) => {
-            let rows = Rows {
-                outputs: lent.outputs.as_slice(),
-                makers: basis.wholes.makers.as_slice(),
-                reasons: lent.reasons.as_slice(),
-                forced: basis.judged.forced.as_slice(),
-                running: basis.judged.running.as_slice(),
-            };
-            match plan_now(
-                alloc,
-                jobs,
-                &basis.table,
-                told,
-                settings,
-                &rows,
-                basis.begun.as_slice(),
-                basis.suspects.as_slice(),
-                None,
-            ) {
-                Err(fault) => Err(fault),
-                Ok(made) => spell(alloc, &basis.table, &rows, made),
-            }
-        }
+        Ok(lent) => plan_lent(alloc, jobs, told, settings, basis, &lent),
     }
 }
 

@@ -1,7 +1,11 @@
-use Rattle.std.proofs.Common.{map, ap, sym, ◌∙◌}
+use Rattle.std.proofs.Common.{List, map, ap, sym, subst, ◌∙◌}
 use Rattle.std.specs.List.{AllZip}
 use Rattle.smk_plan_facts.specs.Telling.{outputs_in}
 use Rattle.smk_plan_table.specs.Parts.{IsSuspectOf}
+use Rattle.smk_plan_states.specs.declared.rows.Own.{Own}
+use Rattle.smk_plan_states.specs.Rows.{FitOwn}
+use Rattle.smk_plan_states.proofs.OwnReasons.{fits_own}
+use Rattle.smk_plan_live.specs.Kept.{own_now}
 use Rattle.smk_plan_live.specs.Now.{known_now, seen_now}
 use Rattle.smk_plan_live.proofs.Settled.{flags_made}
 use Rattle.smk_plan_live.proofs.new.flags_of.Goals as goal
@@ -15,4 +19,7 @@ returns c =
       suspects =
           coe 1 0 (i. AllZip (IsSuspectOf (known_now b) (seen_now b) c.args.settings.now.bounds) (sym c.as_slice-jobs.ensures i) (c.of-2.ensures i))
           c.in_ok-suspects.ensures;
+      own =
+          subst (λ (flags : List Own). FitOwn flags (own_now c.args.settings.now b)) (sym (c.of-3.ensures ∙ c.requires.own)) (fits_own (own_now c.args.settings.now b));
+      forced = c.of-4.ensures ∙ c.requires.forced;
     }

@@ -3,8 +3,6 @@ use Rattle.smk_plan_live.proofs.new.kept_of.Goals as goal
 pub returns : goal.returns
 returns g c =
     record {
-      facts = c.in_ok-judged.ensures.facts;
-      reasons = c.in_ok-judged.ensures.reasons;
       texts = c.in_ok-judged.ensures.texts;
       table = c.in_ok-table.ensures;
       flags = c.in_ok-flags.ensures;

@@ -1,4 +1,4 @@
-use Rattle.std.proofs.Common.{◌≡◌, List, ap, ◌∙◌, map, length}
+use Rattle.std.proofs.Common.{List, ap, ◌∙◌, map, length}
 use Rattle.smk_world.specs.Trees.{Path}
 use Rattle.smk_plan_states.specs.Judged.{Judging, with_states}
 use Rattle.smk_plan_table.specs.Parts.{current_in, listing_in}

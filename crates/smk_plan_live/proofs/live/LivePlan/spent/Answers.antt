@@ -19,7 +19,7 @@ see-requires c =
       live = c.requires.live;
       within = subst (λ m. m < length p.base.jobs.jobs) (sym x.number) (slice_get_within p.base.jobs.jobs c.in-Some.site.now.job x.job x.is);
       changed = subst (λ m. IsChanged p.settings p.base (sighted m (Some l.sights) p.base) m l.forced) (sym x.number)
-          (sighted_changed p c.requires.live c.in-Some.site.now.job x.facts x.has l.forced x.forced (Some l.sights));
+          (sighted_changed p c.requires.live c.in-Some.site.now.job l.forced x.forced (Some l.sights));
     }
 
 pub returns-in-Ok-clause-refused : goal.returns-in-Ok-clause-refused

@@ -1,4 +1,4 @@
-use Rattle.std.proofs.Common.{◌≡◌, ◌∙◌, refl}
+use Rattle.std.proofs.Common.{◌∙◌, refl}
 use Rattle.smk_plan_states.specs.Moment.{IsMoment}
 use Rattle.smk_plan_states.proofs.Kept.{moment}
 use Rattle.smk_plan_states.proofs.table.Table.holds_back.Goals as goal

@@ -1,4 +1,4 @@
-use Rattle.std.proofs.Common.{◌≡◌, ◌∙◌, List, Some, None, option_map, ap, sym}
+use Rattle.std.proofs.Common.{◌∙◌, List, Some, option_map, ap, sym}
 use Rattle.std.specs.Prelude.{slice_index_or}
 use Rattle.std.specs.List.{slice_get}
 use Rattle.smk_plan_states.specs.declared.lines.Line.{Line}
