@@ -1,9 +1,9 @@
 //! The job that begins next.
 
-ghost use Rattle.std.specs.Prelude.{◌≡◌, ◌||◌, ℕ, Bool, true, false, not, None, zip, option_map, IfOk};
+ghost use Rattle.std.specs.Prelude.{◌≡◌, ◌||◌, ℕ, Bool, true, false, not, None, zip, option_map, IfOk, IfSome};
 ghost use Rattle.smk_pick.specs.Shares.{fits_in};
 ghost use Rattle.smk_drive.specs.Lawful.{ask_of};
-ghost use Rattle.std.specs.List.{slice_get};
+ghost use Rattle.std.specs.List.{list_all, slice_get};
 ghost use Rattle.smk_flow.specs.declared.job.Job.{Job as JobValue};
 ghost use Rattle.smk_plan_states.specs.declared.ranks.Rank.{Rank as RankValue};
 ghost use Rattle.smk_plan.specs.States.{test_some};
@@ -12,7 +12,8 @@ ghost use Rattle.smk_plan_live.specs.Lives.{IsLive};
 ghost use Rattle.smk_plan_live.specs.Phases.{has_begun};
 ghost use Rattle.smk_drive_pick.specs.declared.next.Ground.{Ground as GroundValue};
 ghost use Rattle.smk_drive_pick.specs.Picking.{IsNextNow};
-ghost use Rattle.smk_drive_pick.specs.Told.{best_from, better, if_passes};
+ghost use Rattle.smk_plan_live.specs.Priorities.{is_within};
+ghost use Rattle.smk_drive_pick.specs.Told.{IsTop, best_from, better, if_passes};
 ghost use Rattle.smk_drive_pick.specs.Grounds.{IsGroundOf, is_free_by, lacks_by, may_begin_by};
 
 use crate::asking::ask_of;
@@ -222,18 +223,34 @@ fn number_of(best: Option<Best>) -> Option<u32>
     }
 }
 
-// The first of those that may begin in the room and have the greatest priority.
+// Whether no job's priority is greater than that of the best so far: it is no less than this one, which none exceeds.
+fn is_best(best: Option<Best>, top: Option<u64>) -> bool
+    ensures { result ≡ true → IsTop best top }
+{
+    match (best, top) {
+        (Some(best), Some(top)) => best.priority >= top,
+        (Some(_), None) => false,
+        (None, _) => false,
+    }
+}
+
+// The first of those that may begin in the room and have the greatest priority; `top` is a priority that no job's exceeds, if one is known.
 fn best_of(
     alloc: Global,
     told: &Ground<'_>,
     room: &Room,
     jobs: &[Job],
+    top: Option<u64>,
 ) -> Result<Option<Best>, OutOfMemory>
+    requires { IfSome top (λ top. list_all (is_within top) jobs.now ≡ true) }
     ensures { IfOk result (λ found. found ≡ best_from (may_begin_by told.now room.now) 0 None (zip jobs.now told.now.hands.ranks.now)) }
 {
     let ranks = told.hands.ranks;
     let mut best = None;
     for (number, job) in jobs.iter().enumerate() {
+        if is_best(best, top) {
+            return Ok(best);
+        }
         let Some(rank) = ranks.get(number) else {
             return Ok(best);
         };
@@ -253,6 +270,7 @@ pub fn next_job(alloc: Global, live: &LivePlan, room: &Room) -> Result<Option<u3
     ensures { IfOk result (IsNextNow live.now room.now) }
 {
     let told = ground_of(alloc, live)?;
-    let best = best_of(alloc, &told, room, live.jobs().jobs.as_slice())?;
+    let jobs = live.jobs().jobs.as_slice();
+    let best = best_of(alloc, &told, room, jobs, live.top())?;
     Ok(number_of(best))
 }

@@ -8,6 +8,7 @@ pub mod Same
 pub mod Carried
 pub mod Agreeing
 pub mod Commands
+pub mod Priorities
 pub mod Live
 pub mod Lives
 pub mod Changes

@@ -1,5 +1,5 @@
 -- A plan that is kept, as contracts see it.
-use Rattle.std.specs.Prelude.{Bool, List, ℕ, Vec}
+use Rattle.std.specs.Prelude.{Bool, List, ℕ, Option, Vec}
 use Rattle.std.proofs.Common.{Global}
 use Rattle.smk_chain.specs.Derive.{Listings}
 use Rattle.smk_pick.specs.declared.settings.Settings.{Settings}
@@ -22,6 +22,7 @@ pub record LivePlan : Type 0 where
   pub flags : Flags
   pub readers : Vec (List ℕ) Global
   pub commanded : Bool
+  pub top : Option ℕ
 
 -- the plan by what is kept
 abbrev pub plan_kept : Base → Ranking → List Bool → Listings → Table → Flags → Plan
@@ -29,8 +30,8 @@ plan_kept base ranking current known table flags =
     record { states = states_by table (told_by_flags base flags.outputs flags.makers flags.forced) ranking; current = current; known = known }
 
 -- what is kept, as contracts see it
-abbrev pub seen_as : Base → Settings → Ranking → List Bool → Listings → Bool → Table → Flags → Vec (List ℕ) Global → Bool → LivePlan
-seen_as base settings ranking current known held table flags readers commanded =
+abbrev pub seen_as : Base → Settings → Ranking → List Bool → Listings → Bool → Table → Flags → Vec (List ℕ) Global → Bool → Option ℕ → LivePlan
+seen_as base settings ranking current known held table flags readers commanded top =
     record {
       base = base;
       settings = settings;
@@ -41,6 +42,7 @@ seen_as base settings ranking current known held table flags readers commanded =
       flags = flags;
       readers = readers;
       commanded = commanded;
+      top = top;
     }
 
 -- the same, were this its base

@@ -11,6 +11,7 @@ use crate::carried::rows_from;
 use crate::commands::are_seen;
 use crate::later::late_of;
 use crate::new::{Kept, Told, told_of};
+use crate::priorities::top_of;
 use crate::sites::sited_of;
 use crate::slots::Slots;
 use smk_base::{List, OutOfMemory};
@@ -84,6 +85,7 @@ impl LivePlan {
                 let jobs = next.jobs.jobs.as_slice();
                 let ranks = ranked.ranking.ranks();
                 let commanded = are_seen(alloc, self.settings.cores, jobs, ranks);
+                let top = top_of(jobs);
                 self.base = next;
                 self.ranking = ranked.ranking;
                 self.current = ranked.current;
@@ -93,6 +95,7 @@ impl LivePlan {
                 self.flags = flags;
                 self.readers = readers;
                 self.commanded = commanded;
+                self.top = top;
                 Ok(())
             }
         }

@@ -17,7 +17,7 @@ use crate::base::Base;
 use crate::carried::first_rows;
 use crate::commands::are_seen;
 use crate::flags::Flags;
-use crate::lending::lend;
+use crate::priorities::top_of;
 use crate::readers::readers_of;
 use crate::sites::sited_of;
 use crate::slots::Slots;
@@ -153,20 +153,17 @@ fn tell_kept(
     let forced = kept.flags.forced.as_slice();
     let own = kept.flags.own.as_slice();
     let suspects = kept.flags.suspects.as_slice();
-    match lend(alloc, outputs) {
-        Err(_) => Err(PlanFault::OutOfMemory),
-        Ok(rows) => tell_known(
-            alloc,
-            base,
-            settings,
-            &kept.table,
-            &rows,
-            makers,
-            forced,
-            own,
-            suspects,
-        ),
-    }
+    tell_known(
+        alloc,
+        base,
+        settings,
+        &kept.table,
+        outputs,
+        makers,
+        forced,
+        own,
+        suspects,
+    )
 }
 
 // The same with the plan by it.
@@ -246,6 +243,7 @@ fn over<Rt: Threads + Sync>(
             let Told { kept, ranked, held } = told;
             let jobs = base.jobs.jobs.as_slice();
             let commanded = are_seen(alloc, settings.cores, jobs, ranked.ranking.ranks());
+            let top = top_of(jobs);
             Ok(LivePlan {
                 base,
                 settings,
@@ -257,6 +255,7 @@ fn over<Rt: Threads + Sync>(
                 flags: kept.flags,
                 readers: kept.readers,
                 commanded,
+                top,
             })
         }
     }

@@ -13,7 +13,6 @@ ghost use Rattle.smk_plan_live.specs.Steps.{IsAhead, IsChangeOf, IsLast, IsNext,
 
 use crate::LivePlan;
 use crate::learning::forget;
-use crate::lending::lend_with;
 use crate::slots::{Slots, put_at};
 use crate::telling::{Made, tell};
 use smk_base::{List, OutOfMemory};
@@ -133,55 +132,57 @@ impl LivePlan {
         }
     }
 
-    // The plan with what is told anew of the job of the number, which is forced or not, and which jobs have reasons of their own then, so far as that is known.
+    // The plan with what is told anew of the job of the number, which is forced or not, and which jobs have reasons of their own then, so far as that is known. Meanwhile the
+    // outputs that are told anew stand in the place of those that are kept.
     fn tell_changed<J: Judge>(
-        &self,
+        &mut self,
         alloc: Global,
         number: usize,
         forced: bool,
-        change: &Change,
+        change: &mut Change,
         own: &mut Vec<Own>,
         judge: &J,
     ) -> Result<Made, PlanFault>
-        requires table { IsTableOf self.now.base.jobs self.now.settings.targets self.now.table }
-        requires ahead { IsAhead self.now number forced }
-        requires change { IsChangeOf self.now number forced change.now }
-        requires own { own.old.items ≡ forgotten (slice_set self.now.flags.own number Own.Unknown) (readers_at self.now.readers.items number) }
-        ensures own { AreServed self.now.base.jobs self.now.settings.targets → FitOwn own.new.items (own_now self.now.settings self.now.base) }
-        ensures targets { IfOk result (λ made. length made.ranked.current ≡ length self.now.settings.targets) }
-        ensures now { IfOk result (λ made. IsNow self.now.settings self.now.base (plan_next self.now change.now made.ranked) made.held) }
-        ensures standing { IfOk result (λ made. AreServed self.now.base.jobs self.now.settings.targets → StandsNext self.now change.now made.ranked.ranking) }
-        ensures ranked { IfOk result (λ made. AreRanked self.now.settings self.now.base made.ranked.ranking (plan_next self.now change.now made.ranked)) }
-        ensures refused { IfErr result (λ fault. fault ≢ PlanFault.OutOfMemory → IsRefusedNow self.now.settings self.now.base fault) }
+        requires table { IsTableOf self.old.base.jobs self.old.settings.targets self.old.table }
+        requires ahead { IsAhead self.old number forced }
+        requires change { IsChangeOf self.old number forced change.old }
+        requires own { own.old.items ≡ forgotten (slice_set self.old.flags.own number Own.Unknown) (readers_at self.old.readers.items number) }
+        ensures same { (self.new ≡ self.old) × (change.new ≡ change.old) }
+        ensures own { AreServed self.old.base.jobs self.old.settings.targets → FitOwn own.new.items (own_now self.old.settings self.old.base) }
+        ensures targets { IfOk result (λ made. length made.ranked.current ≡ length self.old.settings.targets) }
+        ensures now { IfOk result (λ made. IsNow self.old.settings self.old.base (plan_next self.old change.old made.ranked) made.held) }
+        ensures standing { IfOk result (λ made. AreServed self.old.base.jobs self.old.settings.targets → StandsNext self.old change.old made.ranked.ranking) }
+        ensures ranked { IfOk result (λ made. AreRanked self.old.settings self.old.base made.ranked.ranking (plan_next self.old change.old made.ranked)) }
+        ensures refused { IfErr result (λ fault. fault ≢ PlanFault.OutOfMemory → IsRefusedNow self.old.settings self.old.base fault) }
     {
+        self.flags.outputs.exchange(number, &mut change.outputs);
         let last = self.last(number);
         let readers = last.readers;
         let outputs = self.flags.outputs.as_slice();
         let makers = change.makers.as_slice();
         let forces = change.forced.as_slice();
         let suspects = change.suspects.as_slice();
-        match lend_with(alloc, outputs, change) {
-            Err(_) => Err(PlanFault::OutOfMemory),
-            Ok(rows) => tell(
-                alloc,
-                &self.base,
-                &self.settings,
-                &self.table,
-                &rows,
-                makers,
-                forces,
-                own,
-                suspects,
-                Some(last),
-                readers,
-                judge,
-            ),
-        }
+        let made = tell(
+            alloc,
+            &self.base,
+            &self.settings,
+            &self.table,
+            outputs,
+            makers,
+            forces,
+            own,
+            suspects,
+            Some(last),
+            readers,
+            judge,
+        );
+        self.flags.outputs.exchange(number, &mut change.outputs);
+        made
     }
 
     // What is new with what is told anew of the job of the number, which is forced or not.
     fn next_by<J: Judge>(
-        &self,
+        &mut self,
         alloc: Global,
         number: usize,
         forced: bool,
@@ -189,15 +190,17 @@ impl LivePlan {
         own: Vec<Own>,
         judge: &J,
     ) -> Result<Next, PlanFault>
-        requires table { IsTableOf self.now.base.jobs self.now.settings.targets self.now.table }
-        requires ahead { IsAhead self.now number forced }
-        requires change { IsChangeOf self.now number forced change }
-        requires own { own.items ≡ forgotten (slice_set self.now.flags.own number Own.Unknown) (readers_at self.now.readers.items number) }
-        ensures next { IfOk result (IsNext self.now number forced) }
-        ensures refused { IfErr result (λ fault. fault ≢ PlanFault.OutOfMemory → IsRefusedNow self.now.settings self.now.base fault) }
+        requires table { IsTableOf self.old.base.jobs self.old.settings.targets self.old.table }
+        requires ahead { IsAhead self.old number forced }
+        requires change { IsChangeOf self.old number forced change }
+        requires own { own.items ≡ forgotten (slice_set self.old.flags.own number Own.Unknown) (readers_at self.old.readers.items number) }
+        ensures same { self.new ≡ self.old }
+        ensures next { IfOk result (IsNext self.old number forced) }
+        ensures refused { IfErr result (λ fault. fault ≢ PlanFault.OutOfMemory → IsRefusedNow self.old.settings self.old.base fault) }
     {
+        let mut change = change;
         let mut own = own;
-        match self.tell_changed(alloc, number, forced, &change, &mut own, judge) {
+        match self.tell_changed(alloc, number, forced, &mut change, &mut own, judge) {
             Err(fault) => Err(fault),
             Ok(made) => Ok(Next {
                 change,
@@ -220,17 +223,18 @@ impl LivePlan {
     // What is new once the base has changed at the outputs of the job of the number, which is forced or not. The judge is asked about those of the job and of its readers on
     // whose reasons something hangs.
     fn next_of<J: Judge>(
-        &self,
+        &mut self,
         alloc: Global,
         number: usize,
         forced: bool,
         judge: &J,
     ) -> Result<Next, PlanFault>
-        requires within { number < length self.now.base.jobs.jobs }
-        requires table { IsTableOf self.now.base.jobs self.now.settings.targets self.now.table }
-        requires ahead { IsAhead self.now number forced }
-        ensures next { IfOk result (IsNext self.now number forced) }
-        ensures refused { IfErr result (λ fault. fault ≢ PlanFault.OutOfMemory → IsRefusedNow self.now.settings self.now.base fault) }
+        requires within { number < length self.old.base.jobs.jobs }
+        requires table { IsTableOf self.old.base.jobs self.old.settings.targets self.old.table }
+        requires ahead { IsAhead self.old number forced }
+        ensures same { self.new ≡ self.old }
+        ensures next { IfOk result (IsNext self.old number forced) }
+        ensures refused { IfErr result (λ fault. fault ≢ PlanFault.OutOfMemory → IsRefusedNow self.old.settings self.old.base fault) }
     {
         match self.change_of(alloc, number, forced) {
             Err(_) => Err(PlanFault::OutOfMemory),
@@ -251,7 +255,7 @@ impl LivePlan {
         ensures suspects { self.new.flags.suspects ≡ next.change.suspects.items }
         ensures reasons { (self.new.flags.own ≡ next.own.items) × (self.new.flags.forced ≡ next.change.forced.items) }
         ensures paths { (self.new.table ≡ self.old.table) × (self.new.readers ≡ self.old.readers) }
-        ensures commands { self.new.commanded ≡ self.old.commanded }
+        ensures commands { (self.new.commanded ≡ self.old.commanded) × (self.new.top ≡ self.old.top) }
     {
         let Next {
             change,

@@ -17,14 +17,14 @@ use Rattle.smk_plan_states.specs.Judged.{Judging, AreStates}
 use Rattle.smk_plan_states.specs.Lines.{origin_of}
 use Rattle.smk_plan_states.specs.Moment.{IsMoment}
 use Rattle.smk_plan_states.specs.Ranks.{rank_of}
-use Rattle.smk_plan_states.specs.Ranking.{is_lacking, is_read_by_child}
+use Rattle.smk_plan_states.specs.Ranking.{is_lacking, is_read_by_child, lacking_at}
 use Rattle.smk_plan_states.specs.Rows.{AreRowsAt, FitOwn}
 use Rattle.smk_plan_states.specs.Served.{AreServed}
 use Rattle.smk_plan_states.specs.Standing.{Follows, IsStanding, states_by}
 use Rattle.smk_plan_states.specs.Stays.{Told, told_at, told_by, AreEarlier, AreAfter, AreRowsBut, IsApart, IsUntouched, has_number, reads_of, states_told}
 use Rattle.smk_plan_states.specs.Tables.{IsTableAt, IsTableOf}
 use Rattle.smk_laws_plan.proofs.CurrentLists.{clash_of}
-use Rattle.smk_plan_states.proofs.Lacking.{none_lacking}
+use Rattle.smk_plan_states.proofs.Lacking.{lacking_after, none_lacking}
 use Rattle.smk_plan_states.proofs.Solved.{solved}
 use Rattle.smk_plan_states.proofs.Steps.{got_below, ranks_are, ranks_stay, served_earlier, states_are}
 use Rattle.smk_plan_states.proofs.UsedBy.{used_are}
@@ -64,11 +64,12 @@ pub stands_after :
     (lines : List Line) (origins : List Origin) (now : Told) (watchers : List ℕ) (job : ℕ) (readers : List ℕ) (was used told doubts given : List Bool) (ranks gone : List Rank)
     (ranking t : Ranking) →
     was ≡ ranking.used.items → used ≡ t.used.items → told ≡ t.used.items → given ≡ doubts → ranks ≡ ranking.first.items → t.first.items ≡ gone → t.last.items ≡ t.first.items →
-    ((n : ℕ) → n < length lines → slice_index_or doubts n false ≡ false → IsApart job readers watchers was used n) → AreAfter lines origins now told given job ranks gone → list_any is_lacking (zip gone now.outputs) ≡ false →
+    ((n : ℕ) → n < length lines → slice_index_or doubts n false ≡ false → IsApart job readers watchers was used n) → AreAfter lines origins now told given job ranks gone → lacking_at gone now.outputs job ≡ false → ranking.lacking ≡ false →
     (before : Told) → IsStanding lines origins before ranking → AreRowsBut origins job readers before now →
     ((n : ℕ) (line : Line) → slice_get lines n ≡ Some line → reads_of origins job line ≡ true → has_number n watchers ≡ true) →
     length t.used.items ≡ length lines → ((n : ℕ) → n < length lines → slice_index_or t.used.items n false ≡ is_read_by_child lines origins now.running n) → IsStanding lines origins now t
-stands_after lines origins now watchers job readers was used told doubts given ranks gone ranking t was_is used_is told_is given_is ranks_are first_is last apart went whole before old rows watched flags reading =
+stands_after lines origins now watchers job readers was used told doubts given ranks gone ranking t was_is used_is told_is given_is ranks_are first_is last apart went own whole before old rows watched
+    flags reading =
     standing_stays lines origins before now ranking t doubts job readers watchers old rows watched flags reading
     (λ n lt d.
     subst (λ us. IsApart job readers watchers ranking.used.items us n) used_is (subst (λ ws. IsApart job readers watchers ws used n) was_is (apart n lt d)))
@@ -76,7 +77,9 @@ stands_after lines origins now watchers job readers was used told doubts given r
     (subst (λ (rs : List Rank). AreAfter lines origins now t.used.items doubts job rs gone) ranks_are
     (subst (λ ds. AreAfter lines origins now t.used.items ds job ranks gone) given_is
     (subst (λ us. AreAfter lines origins now us given job ranks gone) told_is went))))
-    (ap (λ (first : List Rank). list_any is_lacking (zip first now.outputs)) first_is ∙ whole)
+    (ap (λ (first : List Rank). list_any is_lacking (zip first now.outputs)) first_is
+    ∙ lacking_after ranking.first.items gone before.outputs now.outputs job (λ m other. went.others m other ∙ ap (λ (rs : List Rank). slice_get rs m) ranks_are)
+    rows.outputs (old.whole whole) own)
     last
 
 -- ## By the table

@@ -16,7 +16,7 @@ use Rattle.smk_plan_states.specs.declared.ranks.Rank.TheVariants.{Open as AtOpen
 use Rattle.smk_plan_states.specs.declared.rows.Rows.{Rows}
 use Rattle.smk_plan_states.specs.declared.spots.Spot.{Spot}
 use Rattle.smk_plan_states.specs.Judged.{Judging}
-use Rattle.smk_plan_states.specs.Rows.{lent, reasons_at, forced_at}
+use Rattle.smk_plan_states.specs.Rows.{reasons_at, forced_at}
 use Rattle.smk_plan_states.specs.Ranks.{by_rank, rank_while_running, state_by}
 use Rattle.smk_plan_states.specs.Spots.{maker_at, spot_at}
 use Rattle.smk_plan_states.specs.Ranking.{dirties_by, is_kept_by, is_link, opens_by, upstream_paths}
@@ -33,7 +33,7 @@ pub record Told : Type 0 where
 abbrev pub told_by : Rows → List (List Reason) → List Bool → Told
 told_by rows reasons forced =
     record {
-      outputs = lent rows.outputs.now;
+      outputs = rows.outputs.now;
       makers = rows.makers.now;
       reasons = reasons;
       forced = forced;

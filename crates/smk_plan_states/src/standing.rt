@@ -11,12 +11,12 @@ ghost use Rattle.smk_plan_states.specs.Moment.{IsMoment};
 ghost use Rattle.smk_plan_states.specs.Ranks.{rank_of};
 ghost use Rattle.smk_plan_states.specs.Ranking.{is_lacking, is_read_by_child};
 ghost use Rattle.smk_trigger.specs.declared.reason.Reason.{Reason as ReasonValue};
-ghost use Rattle.smk_plan_states.specs.Rows.{FitOwn, lent};
+ghost use Rattle.smk_plan_states.specs.Rows.{FitOwn};
 ghost use Rattle.smk_plan_states.specs.Stays.{AreEarlier, AreRowsBut, Told, has_number, reads_of, told_by};
 ghost use Rattle.smk_plan_states.specs.Standing.{HasGone, IsStanding};
 
 use crate::after::{doubts_of, ranks_after};
-use crate::downward::{any_lacking, last_ranks};
+use crate::downward::{any_lacking, is_lacking_at, last_ranks};
 use crate::lack::Lack;
 use crate::lines::{Line, Origin};
 use crate::ranks::Rank;
@@ -99,7 +99,8 @@ fn is_for_each(ranks: &[Rank], lines: &[Line]) -> bool
     ranks.len() == lines.len()
 }
 
-// The ranks after the step of the job, where none of the first pass changes but maybe that of the job, and no job that is Clean lacks an output.
+// The ranks after the step of the job, where none of the first pass changes but maybe that of the job, and that isn't Clean with an output that isn't whole: of no other job
+// is that so, if it wasn't before the step.
 fn go_on(
     alloc: Global,
     lines: &[Line],
@@ -118,7 +119,7 @@ fn go_on(
     if !is_for_each(first.as_slice(), lines) {
         return Ok(None);
     }
-    if any_lacking(first.as_slice(), rows.outputs) {
+    if is_lacking_at(first.as_slice(), rows.outputs, job) {
         return Ok(None);
     }
     Ok(Some(first))

@@ -15,7 +15,7 @@ returns c =
     let live = c.args.live.now in
     let told = c.in_ok-told.told in
     let room = c.args.room.now in
-    let jobs : c.as_slice.result.now ≡ live.base.jobs.jobs = c.as_slice.ensures ∙ ap (λ (j : Jobs). j.jobs) c.jobs.ensures in
+    let jobs : c.as_slice-jobs.result.now ≡ live.base.jobs.jobs = c.as_slice-jobs.ensures ∙ ap (λ (j : Jobs). j.jobs) c.jobs.ensures in
     record {
       wholes = whole_now live;
       whole = λ sorted. refl;

@@ -1,7 +1,10 @@
-use Rattle.std.proofs.Common.{ap, sym, ◌∙◌}
+use Rattle.std.proofs.Common.{ap, sym, ◌∙◌, ◌≡◌, List, true, subst}
+use Rattle.std.specs.Prelude.{IfSome}
+use Rattle.smk_flow.specs.declared.job.Job.{Job}
 use Rattle.std.specs.List.{list_all}
 use Rattle.smk_plan_states.proofs.Counts.{states_each}
 use Rattle.smk_plan_live.specs.Commands.{has_command}
+use Rattle.smk_plan_live.specs.Priorities.{is_within}
 use Rattle.smk_plan_live.specs.Kept.{told_by_flags}
 use Rattle.smk_plan_live.proofs.new.over.Goals as goal
 
@@ -22,5 +25,6 @@ returns-in-Ok-clause-live g c =
       standing = t.standing;
       ranked = t.ranked;
       named = c.requires.named;
+      priorities = subst (λ (js : List Job). IfSome c.top_of-top.result (λ top. list_all (is_within top) js ≡ true)) c.as_slice-jobs.ensures c.top_of-top.ensures;
       commands = λ h. ap (list_all (has_command c.args.settings.cores)) (sym c.as_slice-jobs.ensures) ∙ c.are_seen-commanded.ensures h;
     }

@@ -19,7 +19,7 @@ returns-in_ok-again-in-Some-clause-standing c = λ reasons forced fits.
     c.as_slice-3.result.now c.in_ok-doubts.doubts.items c.as_slice-4.result.now c.as_slice-5.result.now c.in-Some.first.items c.args.last.ranking.now
     (record { first = c.in-Some.first; last = c.in_ok-again-in-Some.again; used = c.args.used; lacking = false })
     c.as_slice.ensures.value c.as_slice-2.ensures.value c.as_slice-3.ensures.value c.as_slice-4.ensures.value c.as_slice-5.ensures.value refl
-    (c.in_ok-again-in-Some.ensures.items ∙ c.as_slice-in-Some.ensures.value) c.in_ok-doubts.ensures (went.after reasons forced fits) went.whole
+    (c.in_ok-again-in-Some.ensures.items ∙ c.as_slice-in-Some.ensures.value) c.in_ok-doubts.ensures (went.after reasons forced fits) went.whole c.if-ranking.false
 
 pub returns-in_ok-again-in-Some-clause-kept : goal.returns-in_ok-again-in-Some-clause-kept
 returns-in_ok-again-in-Some-clause-kept c =
