@@ -15,17 +15,20 @@ use Rattle.smk_plan.specs.States.{Plan, is_held_back, is_input, is_spent, makes_
 use Rattle.smk_plan_states.specs.declared.lines.Line.{Line}
 use Rattle.smk_plan_states.specs.Judged.{Judging, any_held_back}
 use Rattle.smk_plan_states.specs.Ranks.{rank_of}
+use Rattle.smk_plan_states.specs.Rows.{has_any}
 use Rattle.smk_plan_states.specs.Lines.{feeds, line_of, origin_of, temp_of}
 use Rattle.smk_plan_states.specs.Tables.{IsTableOf}
+use Rattle.smk_plan_live.specs.Limits.{has_temps}
 use Rattle.smk_plan_live.specs.Live.{LivePlan}
 use Rattle.smk_laws_plan.proofs.CurrentLists.{In, and_left, and_right, any_none, clash_of, zip_first}
 use Rattle.smk_laws_plan.proofs.CurrentPaths.{in_among}
 use Rattle.smk_laws_plan.proofs.CurrentRecipes.{flat_same}
 use Rattle.smk_laws_plan.proofs.PlanStates.{filter_same}
 use Rattle.smk_drive_pick.specs.Picking.{AreToldOf, plan_of}
-use Rattle.smk_drive_pick.specs.Spending.{has_any, has_temps, is_ripe, may_go, need_all, ripe_in, ripe_paths, spent_now}
+use Rattle.smk_drive_pick.specs.Spending.{is_ripe, may_go, need_all, ripe_in, ripe_paths, spent_now}
 use Rattle.smk_drive_pick.proofs.Awaiting.{feeds_is}
 use Rattle.smk_drive_pick.proofs.ByRank.{need_by, ripe_ranks, state_done, state_need_all, state_ripe_by, state_ripe_in}
+use Rattle.smk_drive_pick.proofs.Lists.{filter_none}
 use Rattle.smk_drive_pick.proofs.Needs.{needed_is, noted}
 
 -- ## Booleans
@@ -81,10 +84,6 @@ unheld_bool t m x c n d h g e = ap (λ b. goes t m x c n d b g) e ∙ go t m x c
     go true true true true true true = refl
 
 -- ## Lists
-
-filter_none : {A : Type 0} (t : A → Bool) (xs : List A) → ((x : A) → In x xs → t x ≡ false) → filter t xs ≡ []
-filter_none t [] h = refl
-filter_none t (x ∷ xs) h = ap (λ b. cond b (x ∷ filter t xs) (filter t xs)) (h x (inl refl)) ∙ filter_none t xs (λ y k. h y (inr k))
 
 flat_none : {A B : Type 0} (f : A → List B) (xs : List A) → ((x : A) → In x xs → f x ≡ []) → flat_map f xs ≡ []
 flat_none f [] h = refl

@@ -27,6 +27,10 @@ pub record IsGroundOf (live : LivePlan) (told : Ground) : Type 0 where
       (at : Judging) → IsTableAt at live.base.jobs live.table → live.base.began ≡ began at live.base.jobs →
       told.used.items ≡ map (is_read_now at.image at.settings at.progress (with_states live.base.jobs [])) live.base.jobs.jobs
 
+-- the room has no place left for an ask of so many threads, even one of no amounts
+abbrev pub is_full : Room → ℕ → Bool
+is_full room threads = not (fits_in room (record { threads = threads; amounts = []; priority = 0 }))
+
 -- something that the job of the number needs isn't at hand
 abbrev pub lacks_by : Ground → ℕ → Bool
 lacks_by told n = test_some (lacks_some (is_missing told.hands.ranks.now told.hands.origins.now told.hands.wholes.now)) (slice_get told.lines.now n)

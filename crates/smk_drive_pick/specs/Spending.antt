@@ -85,14 +85,6 @@ is_listed_in folders files m = if m.folder then folders m.name else files m.name
 
 -- ## Spent outputs
 
-abbrev pub has_any : List Path → Bool
-has_any [] = false
-has_any (p ∷ ps) = true
-
--- an output of it is temporary
-abbrev pub has_temps : Job → Bool
-has_temps j = has_any j.temps
-
 -- a rank of a job that doesn't keep all others from being spent
 abbrev pub is_done_with : Rank → Bool
 is_done_with AtOpen = false

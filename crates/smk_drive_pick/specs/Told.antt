@@ -1,5 +1,5 @@
 -- Which jobs may begin, by what is told of paths and jobs by their numbers.
-use Rattle.std.specs.Prelude.{ℕ, suc, Bool, false, ◌&&◌, ◌||◌, not, List, [], ◌∷◌, nat_lt, slice_index_or, if◌then◌else◌, Option, Some, None}
+use Rattle.std.specs.Prelude.{◌≡◌, ℕ, suc, Bool, false, ◌&&◌, ◌||◌, not, List, [], ◌∷◌, nat_lt, slice_index_or, if◌then◌else◌, Option, Some, None}
 use Rattle.std.specs.List.{list_any, slice_get}
 use Rattle.std.specs.Option.{option_and_then}
 use Rattle.smk_flow.specs.declared.job.Job.{Job}
@@ -41,6 +41,14 @@ abbrev pub better : Option Best → Option Best → Option Best
 better None later = later
 better (Some best) None = Some best
 better (Some best) (Some later) = if nat_lt best.priority later.priority then Some later else Some best
+
+-- there is a best one, and its priority is no less than this one
+pub record IsTop (best : Option Best) (top : Option ℕ) : Type 0 where
+  pub one : Best
+  pub is : best ≡ Some one
+  pub most : ℕ
+  pub known : top ≡ Some most
+  pub no_less : nat_lt one.priority most ≡ false
 
 -- the job of the number, where it passes
 abbrev pub if_passes : {A : Type 0} → (Job × A → Bool) → ℕ → Job × A → Option Best

@@ -1,9 +1,7 @@
 //! The job that begins next.
 
-ghost use Rattle.std.specs.Prelude.{◌≡◌, ◌||◌, ℕ, Bool, true, false, not, None, zip, option_map, IfOk};
-ghost use Rattle.smk_pick.specs.Shares.{fits_in};
-ghost use Rattle.smk_drive.specs.Lawful.{ask_of};
-ghost use Rattle.std.specs.List.{slice_get};
+ghost use Rattle.std.specs.Prelude.{◌≡◌, ◌||◌, ℕ, Bool, true, not, None, zip, option_map, IfOk, IfSome};
+ghost use Rattle.std.specs.List.{list_all, slice_get};
 ghost use Rattle.smk_flow.specs.declared.job.Job.{Job as JobValue};
 ghost use Rattle.smk_plan_states.specs.declared.ranks.Rank.{Rank as RankValue};
 ghost use Rattle.smk_plan.specs.States.{test_some};
@@ -12,8 +10,9 @@ ghost use Rattle.smk_plan_live.specs.Lives.{IsLive};
 ghost use Rattle.smk_plan_live.specs.Phases.{has_begun};
 ghost use Rattle.smk_drive_pick.specs.declared.next.Ground.{Ground as GroundValue};
 ghost use Rattle.smk_drive_pick.specs.Picking.{IsNextNow};
-ghost use Rattle.smk_drive_pick.specs.Told.{best_from, better, if_passes};
-ghost use Rattle.smk_drive_pick.specs.Grounds.{IsGroundOf, is_free_by, lacks_by, may_begin_by};
+ghost use Rattle.smk_plan_live.specs.Limits.{is_within};
+ghost use Rattle.smk_drive_pick.specs.Told.{IsTop, best_from, better, if_passes};
+ghost use Rattle.smk_drive_pick.specs.Grounds.{IsGroundOf, is_free_by, is_full, lacks_by, may_begin_by};
 
 use crate::asking::ask_of;
 use crate::hands::Hands;
@@ -189,16 +188,26 @@ fn is_no_better(job: &Job, best: Option<Best>) -> bool
     }
 }
 
-// Whether the room has too few threads or amounts left for the job, whatever amounts it asks for.
-fn is_full(alloc: Global, room: &Room, job: &Job) -> bool
-    ensures { result ≡ true → fits_in room.now (ask_of job.now) ≡ false }
+// Whether the room has no place left for an ask of so many threads, even one of no amounts.
+fn is_full(alloc: Global, room: &Room, threads: u64) -> bool
+    ensures { result ≡ is_full room.now threads }
 {
     let bare = Ask {
-        threads: job.threads,
+        threads,
         amounts: List::new(alloc),
-        priority: job.priority,
+        priority: 0,
     };
     !room.fits(&bare)
+}
+
+// Whether it is so of the fewest threads that a job asks for, if these are known: then it has no place left for any job.
+fn is_full_for_all(alloc: Global, room: &Room, least: Option<u64>) -> bool
+    ensures { result ≡ test_some (is_full room.now) least }
+{
+    match least {
+        None => false,
+        Some(threads) => is_full(alloc, room, threads),
+    }
 }
 
 // Whether the best so far stays, be the job free or not.
@@ -209,7 +218,7 @@ fn is_passed_over(alloc: Global, room: &Room, job: &Job, best: Option<Best>) -> 
     if is_no_better(job, best) {
         return true;
     }
-    is_full(alloc, room, job)
+    is_full(alloc, room, job.threads)
 }
 
 // The number of the job.
@@ -222,18 +231,34 @@ fn number_of(best: Option<Best>) -> Option<u32>
     }
 }
 
-// The first of those that may begin in the room and have the greatest priority.
+// Whether no job's priority is greater than that of the best so far: it is no less than this one, which none exceeds.
+fn is_best(best: Option<Best>, top: Option<u64>) -> bool
+    ensures { result ≡ true → IsTop best top }
+{
+    match (best, top) {
+        (Some(best), Some(top)) => best.priority >= top,
+        (Some(_), None) => false,
+        (None, _) => false,
+    }
+}
+
+// The first of those that may begin in the room and have the greatest priority; `top` is a priority that no job's exceeds, if one is known.
 fn best_of(
     alloc: Global,
     told: &Ground<'_>,
     room: &Room,
     jobs: &[Job],
+    top: Option<u64>,
 ) -> Result<Option<Best>, OutOfMemory>
+    requires { IfSome top (λ top. list_all (is_within top) jobs.now ≡ true) }
     ensures { IfOk result (λ found. found ≡ best_from (may_begin_by told.now room.now) 0 None (zip jobs.now told.now.hands.ranks.now)) }
 {
     let ranks = told.hands.ranks;
     let mut best = None;
     for (number, job) in jobs.iter().enumerate() {
+        if is_best(best, top) {
+            return Ok(best);
+        }
         let Some(rank) = ranks.get(number) else {
             return Ok(best);
         };
@@ -247,12 +272,18 @@ fn best_of(
 /// they make, and that fit into the room that is left. None where there is no such job. `OutOfMemory` where there is no memory to
 /// tell, or where 32 bits can't tell the number.
 ///
-/// In the room are the jobs whose child runs. The time is linear in the jobs with their inputs, by numbers: no path is looked up.
+/// In the room are the jobs whose child runs. The time is linear in the jobs with their inputs, by numbers: no path is looked up. Where the room has no place left
+/// for as few threads as a job asks for, no job is looked at.
 pub fn next_job(alloc: Global, live: &LivePlan, room: &Room) -> Result<Option<u32>, OutOfMemory>
     requires { IsLive live.now }
     ensures { IfOk result (IsNextNow live.now room.now) }
 {
+    let limits = live.limits();
+    if is_full_for_all(alloc, room, limits.least) {
+        return Ok(None);
+    }
     let told = ground_of(alloc, live)?;
-    let best = best_of(alloc, &told, room, live.jobs().jobs.as_slice())?;
+    let jobs = live.jobs().jobs.as_slice();
+    let best = best_of(alloc, &told, room, jobs, limits.top)?;
     Ok(number_of(best))
 }

@@ -1,10 +1,10 @@
 //! Temporary outputs that aren't needed any more.
 
 ghost use Rattle.std.specs.Prelude.{◌≡◌, ◌++◌, List as Items, [], replicate, slice_set, zip, if◌then◌else◌, false, true, IfOk, OnOk};
-ghost use Rattle.std.specs.List.{list_all, list_any};
+ghost use Rattle.std.specs.List.{list_all};
 ghost use Rattle.smk_plan_states.specs.Ranks.{is_clean_rank};
 ghost use Rattle.smk_plan_live.specs.Lives.{IsLive};
-ghost use Rattle.smk_drive_pick.specs.Spending.{AreRipeOf, AreSpentNow, has_temps, is_done_with, is_ripe, need_all, need_each, need_of, ripe_in, ripe_by, ripe_of, ripe_paths, with_need};
+ghost use Rattle.smk_drive_pick.specs.Spending.{AreRipeOf, AreSpentNow, is_done_with, is_ripe, need_all, need_each, need_of, ripe_in, ripe_by, ripe_of, ripe_paths, with_need};
 
 use crate::numbers::has_flag;
 use crate::standing::may_go;
@@ -21,16 +21,6 @@ fn is_clean(rank: Rank) -> bool
     matches!(rank, Rank::Clean)
 }
 
-// Whether an output of the job is temporary.
-fn has_temps(job: &Job) -> bool
-    ensures { result ≡ has_temps job.now }
-{
-    match job.temps.as_slice() {
-        [] => false,
-        [_, ..] => true,
-    }
-}
-
 // Whether a job of this rank doesn't keep all outputs from being spent.
 fn is_done_with(rank: Rank) -> bool
     ensures { result ≡ is_done_with rank }
@@ -41,18 +31,6 @@ fn is_done_with(rank: Rank) -> bool
         Rank::Restore => false,
         Rank::Clean => true,
     }
-}
-
-// Whether one of the jobs has an output that is temporary.
-fn any_temporary(jobs: &[Job]) -> bool
-    ensures { result ≡ list_any has_temps jobs.now }
-{
-    for job in jobs {
-        if has_temps(job) {
-            return true;
-        }
-    }
-    false
 }
 
 // Whether no job is Open or to be restored.
@@ -246,13 +224,14 @@ fn ripe_now(alloc: Global, live: &LivePlan) -> Result<List<PathText>, OutOfMemor
 /// a job that makes a directory which a job awaits. They may go where something was seen: a file, or a directory in which nothing
 /// stands but what its record lists. `OutOfMemory` where there is no memory for the answer.
 ///
-/// The time is linear in the jobs with what they read and make, by numbers, and that of a look at each job where no output is temporary; paths are looked up only
-/// of outputs that nobody needs any more.
+/// The time is linear in the jobs with what they read and make, by numbers, and no job is looked at where no output is temporary; paths are looked up only of
+/// outputs that nobody needs any more.
 pub fn spent_paths(alloc: Global, live: &LivePlan) -> Result<List<PathText>, OutOfMemory>
     requires { IsLive live.now }
     ensures { IfOk result (AreSpentNow live.now) }
 {
-    if !any_temporary(live.jobs().jobs.as_slice()) {
+    let limits = live.limits();
+    if !limits.temporary {
         return Ok(List::new(alloc));
     }
     if live.holds_back() {

@@ -6,6 +6,7 @@ pub mod Stamped
 pub mod FactsTold
 pub mod Members
 mod Sorted
+mod Again
 pub mod WholesTold
 pub mod Stays
 pub mod Reasoned

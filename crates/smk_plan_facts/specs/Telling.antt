@@ -1,6 +1,6 @@
 -- What a store and sights tell of jobs, with no word of an image: stamps, facts, what forces a job, and what is whole.
-use Rattle.std.specs.Prelude.{◌≡◌, ℕ, zero, suc, ◌==◌, Bool, true, false, ◌&&◌, ◌||◌, not, List, [], ◌∷◌, map, bytes_eq, if◌then◌else◌, Option, Some, None, is_some}
-use Rattle.std.specs.List.{list_any, list_all, find, flat_map}
+use Rattle.std.specs.Prelude.{◌≡◌, ℕ, zero, suc, ◌==◌, Bool, true, false, ◌&&◌, ◌||◌, not, List, [], ◌∷◌, map, bytes_eq, if◌then◌else◌, Option, Some, None, is_some, slice_set}
+use Rattle.std.specs.List.{list_any, list_all, find, flat_map, slice_get}
 use Rattle.std.specs.Option.{option_and_then, option_or}
 use Rattle.std.specs.BTreeSet.{contains_text}
 use lib.Pointwise.{pointwise}
@@ -280,6 +280,29 @@ abbrev pub flags_but : (Maker → Bool) → ℕ → List Maker → List Bool →
 flags_but fresh n [] flags = []
 flags_but fresh n (m ∷ makers) [] = []
 flags_but fresh n (m ∷ makers) (b ∷ flags) = (if is_number n m.job then fresh m else b) ∷ flags_but fresh n makers flags
+
+-- among these numbers is that of each maker that names the job of the number n
+abbrev pub AreNumbersOf : ℕ → List Maker → List ℕ → Type 0
+AreNumbersOf n makers numbers = (m : ℕ) (k : Maker) → slice_get makers m ≡ Some k → is_number n k.job ≡ true → list_any (λ (x : ℕ). x == m) numbers ≡ true
+
+-- the flag in a place, a fresh one where the maker there names the job of the number n
+abbrev pub flag_in : (Maker → Bool) → ℕ → Option Maker → Option Bool → Option Bool
+flag_in fresh n None flag = None
+flag_in fresh n (Some m) None = None
+flag_in fresh n (Some m) (Some b) = Some (if is_number n m.job then fresh m else b)
+
+abbrev pub put_some : List Bool → ℕ → Option Bool → List Bool
+put_some flags at None = flags
+put_some flags at (Some b) = slice_set flags at b
+
+-- the flags with that in the place told so
+abbrev pub flags_at : (Maker → Bool) → ℕ → List Maker → List Bool → ℕ → List Bool
+flags_at fresh n makers flags at = put_some flags at (flag_in fresh n (slice_get makers at) (slice_get flags at))
+
+-- the same in each of the places
+abbrev pub flags_each : (Maker → Bool) → ℕ → List Maker → List ℕ → List Bool → List Bool
+flags_each fresh n makers [] flags = flags
+flags_each fresh n makers (at ∷ numbers) flags = flags_each fresh n makers numbers (flags_at fresh n makers flags at)
 
 -- the maker's path is whole, as what this job makes there
 abbrev pub is_made_of : List Known → List Sight → Job → Maker → Bool

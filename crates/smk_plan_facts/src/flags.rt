@@ -1,8 +1,8 @@
 //! What is whole, row by row, and told anew of one job.
 
-ghost use Rattle.std.specs.Prelude.{◌≡◌, map, true, IfOk, if◌then◌else◌};
+ghost use Rattle.std.specs.Prelude.{◌≡◌, map, option_map, slice_set, true, IfOk, if◌then◌else◌};
 ghost use Rattle.smk_world.specs.Trees.{Each};
-ghost use Rattle.smk_plan_facts.specs.Telling.{directories_of, flags_but, is_made_in, is_made_of, is_number, is_told_whole, makers_in, outputs_in, IsSorted};
+ghost use Rattle.smk_plan_facts.specs.Telling.{directories_of, flag_in, flags_at, flags_but, flags_each, is_made_in, is_made_of, is_number, is_told_whole, makers_in, outputs_in, put_some, AreNumbersOf, IsSorted};
 
 use crate::directories::{Directory, directories_in, whole_in};
 use crate::rising::{are_all_sorted, are_sorted};
@@ -133,55 +133,111 @@ fn flag_again<T: Told>(
     is_made(told, directories, &maker.path, sorted)
 }
 
-// The flags of the makers, told anew of the job of the number, where these are its directories.
-fn flags_again<T: Told>(
-    alloc: Global,
+// The flag in a place, told so, where there are a maker and a flag.
+fn flag_in<T: Told>(
+    told: &T,
+    number: usize,
+    directories: &[Directory],
+    sorted: bool,
+    maker: Option<&Maker>,
+    flag: Option<&bool>,
+) -> Option<bool>
+    requires { sorted ≡ true → Each (IsSorted (T.seen told.now)) directories.now }
+    ensures { result ≡ flag_in (λ m. is_made_in (T.seen told.now) m.path directories.now) number (option_map (λ m. m.now) maker.entry) (option_map (λ b. b.now) flag.entry) }
+{
+    match maker {
+        None => None,
+        Some(maker) => match flag {
+            None => None,
+            Some(flag) => Some(flag_again(told, number, directories, sorted, maker, *flag)),
+        },
+    }
+}
+
+// Puts the flag in the place, where there is one.
+#[tactic(auto, using(crate::proofs::Again::set_beyond))]
+fn put(flags: &mut Vec<bool>, at: usize, flag: bool)
+    ensures { flags.new.items ≡ slice_set flags.old.items at flag }
+{
+    if at < flags.len() {
+        flags[at] = flag;
+    }
+}
+
+// The same of a flag, if there is any.
+fn put_some(flags: &mut Vec<bool>, at: usize, flag: Option<bool>)
+    ensures { flags.new.items ≡ put_some flags.old.items at flag }
+{
+    match flag {
+        None => {}
+        Some(flag) => put(flags, at, flag),
+    }
+}
+
+// Tells the flag in the place anew, where these are the directories of the job of the number.
+fn tell_at<T: Told>(
     told: &T,
     number: usize,
     directories: &[Directory],
     sorted: bool,
     makers: &[Maker],
-    flags: &[bool],
-) -> Result<List<bool>, OutOfMemory>
+    flags: &mut Vec<bool>,
+    at: usize,
+)
     requires { sorted ≡ true → Each (IsSorted (T.seen told.now)) directories.now }
-    ensures { IfOk result (λ found. found ≡ flags_but (λ m. is_made_in (T.seen told.now) m.path directories.now) number makers.now flags.now) }
+    ensures { flags.new.items ≡ flags_at (λ m. is_made_in (T.seen told.now) m.path directories.now) number makers.now flags.old.items at }
 {
-    let mut found = List::new(alloc);
-    let mut rest = flags;
-    for maker in makers {
-        let Some((flag, later)) = rest.split_first() else {
-            return Ok(found);
-        };
-        found.push(flag_again(told, number, directories, sorted, maker, *flag))?;
-        rest = later;
-    }
-    Ok(found)
+    let maker = makers.get(at);
+    let flag = flag_in(told, number, directories, sorted, maker, flags.get(at));
+    put_some(flags, at, flag);
 }
 
-/// The same once what is known and seen may have changed at the outputs of the job of the number, where these were the flags: those of other jobs' paths stay.
-/// `OutOfMemory` where there is no memory for the answer.
+// The same in each of the places.
+fn tell_each<T: Told>(
+    told: &T,
+    number: usize,
+    directories: &[Directory],
+    sorted: bool,
+    makers: &[Maker],
+    numbers: &[usize],
+    flags: &mut Vec<bool>,
+)
+    requires { sorted ≡ true → Each (IsSorted (T.seen told.now)) directories.now }
+    ensures { flags.new.items ≡ flags_each (λ m. is_made_in (T.seen told.now) m.path directories.now) number makers.now numbers.now flags.old.items }
+{
+    for at in numbers {
+        tell_at(told, number, directories, sorted, makers, flags, *at);
+    }
+}
+
+/// The same once what is known and seen may have changed at the outputs of the job of the number, where these were the flags, and among the numbers is that of each
+/// maker which names the job: the flags of other jobs' paths stay. `OutOfMemory` where there is no memory for the answer.
 ///
-/// The time is that of a look at the number of each maker, and of what the job makes as in `makers_told`.
+/// The time is that of a copy of the flags, of a look at each of these makers, and of what the job makes as in `makers_told`.
 pub fn makers_again<T: Told>(
     alloc: Global,
     told: &T,
     number: usize,
     job: &Job,
     makers: &[Maker],
+    numbers: &[usize],
     flags: &[bool],
-) -> Result<List<bool>, OutOfMemory>
-    ensures { IfOk result (λ found. found ≡ flags_but (is_made_of (T.known told.now) (T.seen told.now) job.now) number makers.now flags.now) }
+) -> Result<Vec<bool>, OutOfMemory>
+    requires { AreNumbersOf number makers.now numbers.now }
+    ensures { IfOk result (λ found. found.items ≡ flags_but (is_made_of (T.known told.now) (T.seen told.now) job.now) number makers.now flags.now) }
 {
     let directories = directories_in(alloc, told, job.recipe.outputs.as_slice())?;
     let sorted = are_sorted(told, directories.as_slice());
-    let found = flags_again(
-        alloc,
+    let mut found = Vec::from_slice(alloc, flags)?;
+    found.truncate(makers.len());
+    tell_each(
         told,
         number,
         directories.as_slice(),
         sorted,
         makers,
-        flags,
-    )?;
+        numbers,
+        &mut found,
+    );
     Ok(found)
 }

@@ -40,6 +40,17 @@ set_back [] n x y e = refl
 set_back (z ∷ xs) zero x y e = ap (λ w. w ∷ xs) e
 set_back (z ∷ xs) (suc n) x y e = ap (λ ys. z ∷ ys) (set_back xs n x y e)
 
+-- an element that was exchanged for another one, and back
+pub exchanged : {A : Type 0} (xs : List A) (n : ℕ) (x : A) → slice_set (slice_set xs n x) n (slice_index_or xs n x) ≡ xs
+exchanged [] n x = refl
+exchanged (z ∷ xs) zero x = refl
+exchanged (z ∷ xs) (suc n) x = ap (λ ys. z ∷ ys) (exchanged xs n x)
+
+pub exchanged_back : {A : Type 0} (xs : List A) (n : ℕ) (x : A) → slice_index_or (slice_set xs n x) n (slice_index_or xs n x) ≡ x
+exchanged_back [] n x = refl
+exchanged_back (z ∷ xs) zero x = refl
+exchanged_back (z ∷ xs) (suc n) x = exchanged_back xs n x
+
 pub get_other : {A : Type 0} (xs : List A) (n m : ℕ) (x : A) → (m ≡ n → ⊥) → slice_get (slice_set xs n x) m ≡ slice_get xs m
 get_other [] n m x other = refl
 get_other (y ∷ xs) zero zero x other = absurd (other refl)

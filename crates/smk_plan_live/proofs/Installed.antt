@@ -22,7 +22,7 @@ use Rattle.smk_plan_facts.specs.Telling.{forced_by, is_made_of, outputs_in}
 use Rattle.smk_plan_states.specs.declared.standing.Last.{Last}
 use Rattle.smk_plan_states.specs.declared.rows.Own.{Own}
 use Rattle.smk_plan_states.specs.declared.rows.Own.TheVariants.{Unknown}
-use Rattle.smk_plan_states.specs.Rows.{FitOwn, FitsOwn, lent}
+use Rattle.smk_plan_states.specs.Rows.{FitOwn, FitsOwn}
 use Rattle.smk_plan_states.specs.Served.{AreServed}
 use Rattle.smk_plan_states.specs.Standing.{StandsBy, states_by}
 use Rattle.smk_plan_states.specs.Stays.{AreRowsBut, Told as TellsRows, has_number}
@@ -31,7 +31,6 @@ use Rattle.smk_plan_table.specs.declared.planning.Ranked.{Ranked}
 use Rattle.smk_plan_table.specs.declared.suspects.Suspect.{Suspect}
 use Rattle.smk_plan_table.specs.Parts.{IsSuspectOf}
 use Rattle.smk_plan_live.specs.declared.base.Base.{Base}
-use Rattle.smk_plan_live.specs.declared.lending.Lent.{Lent}
 use Rattle.smk_plan_live.specs.Live.{LivePlan, plan_kept}
 use Rattle.smk_plan_live.specs.declared.next.Change.{Change}
 use Rattle.smk_plan_live.specs.declared.sites.Site.{Site}
@@ -43,7 +42,7 @@ use Rattle.smk_plan_live.specs.Phases.{begun_in, has_begun}
 use Rattle.smk_plan_live.specs.Learning.{forgotten}
 use Rattle.smk_plan_live.specs.Same.{paths_in, is_user, AreSameBut, users_from}
 use Rattle.smk_plan_live.specs.Carried.{has_name, turned, filled, advanced, sighted, sight_but, spent, spent_at}
-use Rattle.smk_plan_live.specs.Kept.{facts_if, facts_kept, forced_now, own_by, own_now, told_by_flags, told_lent}
+use Rattle.smk_plan_live.specs.Kept.{facts_if, facts_kept, forced_now, own_by, own_now, told_by_flags}
 use Rattle.smk_plan_live.specs.Lives.{AreLentNow, AreMakersWhole, AreNamed, AreRanked, FollowsLent, IsLive, IsNow}
 use Rattle.smk_plan_live.specs.Steps.{IsAhead, IsChanged, IsChangeOf, IsLast, IsLoss, StandsNext, moved, or_no_numbers, plan_next, readers_at, told_next}
 use Rattle.smk_plan_live.proofs.Changed.{set_back, set_here, get_other, filled_but, sighted_but, turned_sound, filled_sound, sighted_sound, closed_begun, begun_here, begun_other, named_in}
@@ -313,7 +312,7 @@ module _ (p : LivePlan) (n : ℕ) (forced : Bool) (ahead : IsAhead p n forced) (
 
   -- what is lent with what is new
   pub lent_then :
-      (rows : Lent) → lent rows.outputs.items ≡ slice_set p.flags.outputs change.number change.outputs → (makers : List Bool) → makers ≡ change.makers →
+      (rows : List (List Bool)) → rows ≡ slice_set p.flags.outputs change.number change.outputs → (makers : List Bool) → makers ≡ change.makers →
       (own : List Own) → (AreServed p.base.jobs p.settings.targets → FitOwn own (own_now p.settings p.base)) → (suspects : List Suspect) →
       suspects ≡ change.suspects.items → AreServed p.base.jobs p.settings.targets → AreLentNow p.settings p.base rows makers own suspects
   lent_then rows outputs makers whole own fits suspects doubts served =
@@ -329,8 +328,8 @@ module _ (p : LivePlan) (n : ℕ) (forced : Bool) (ahead : IsAhead p n forced) (
 
   -- what is lent with what is new is told now
   pub lent_is :
-      (rows : Lent) → lent rows.outputs.items ≡ slice_set p.flags.outputs change.number change.outputs → (makers flags : List Bool) → makers ≡ change.makers →
-      flags ≡ change.forced.items → told_lent p.base rows makers flags ≡ told_next p change
+      (rows : List (List Bool)) → rows ≡ slice_set p.flags.outputs change.number change.outputs → (makers flags : List Bool) → makers ≡ change.makers →
+      flags ≡ change.forced.items → told_by_flags p.base rows makers flags ≡ told_next p change
   lent_is rows outputs makers flags whole force = λ i. told_by_flags p.base (outputs i) (whole i) (force i)
 
   -- it is told rightly which jobs are forced
@@ -345,7 +344,7 @@ module _ (p : LivePlan) (n : ℕ) (forced : Bool) (ahead : IsAhead p n forced) (
 
   -- what the plan keeps stood before the step
   pub follows_then :
-      (l : Last) → IsLast p n l → (rows : Lent) (makers flags : List Bool) → told_lent p.base rows makers flags ≡ told_next p change →
+      (l : Last) → IsLast p n l → (rows : List (List Bool)) (makers flags : List Bool) → told_by_flags p.base rows makers flags ≡ told_next p change →
       FollowsLent p.settings p.base p.table rows makers flags (Some l)
   follows_then l kept rows makers flags told_is served = (
     told_by_flags before p.flags.outputs p.flags.makers p.flags.forced,
@@ -365,9 +364,9 @@ module _ (p : LivePlan) (n : ℕ) (forced : Bool) (ahead : IsAhead p n forced) (
       new.plan ≡ plan_kept new.base new.ranking ranked.current ranked.known new.table new.flags →
       new.ranking ≡ ranked.ranking → new.held ≡ held →
       new.flags.outputs ≡ slice_set p.flags.outputs change.number change.outputs → new.flags.makers ≡ change.makers →
-      new.flags.suspects ≡ change.suspects.items → new.flags.own ≡ own → new.flags.forced ≡ change.forced.items → new.table ≡ p.table →
-      new.readers ≡ p.readers → new.commanded ≡ p.commanded → IsLive new
-  installed new ranked held flags targets now stands are fits base settings made ranks back outputs makers suspects own force table readers commanded =
+      new.flags.suspects ≡ change.suspects.items → new.flags.made ≡ p.flags.made → new.flags.own ≡ own → new.flags.forced ≡ change.forced.items → new.table ≡ p.table →
+      new.readers ≡ p.readers → new.commanded ≡ p.commanded → new.limits ≡ p.limits → IsLive new
+  installed new ranked held flags targets now stands are fits base settings made ranks back outputs makers suspects kept own force table readers commanded limits =
       coe 1 0
       (i.
       IsLive
@@ -380,7 +379,8 @@ module _ (p : LivePlan) (n : ℕ) (forced : Bool) (ahead : IsAhead p n forced) (
         table = table i;
         readers = readers i;
         commanded = commanded i;
-        flags = record { outputs = its i; makers = makers i; suspects = suspects i; own = own i; forced = force i };
+        limits = limits i;
+        flags = record { outputs = its i; makers = makers i; suspects = suspects i; own = own i; forced = force i; made = kept i };
       }))
       (record {
         sound = ahead.changed.sound;
@@ -397,10 +397,12 @@ module _ (p : LivePlan) (n : ℕ) (forced : Bool) (ahead : IsAhead p n forced) (
               own = fits served;
               forced = force_then served;
             };
+        made = ahead.live.made;
         readers = ahead.live.readers;
         standing = λ served. subst (λ (rows : TellsRows). StandsBy p.table rows ranked.ranking) told_is (stands served);
         ranked = are;
         named = ahead.changed.named;
+        limits = ahead.live.limits;
         commands = ahead.live.commands;
       })
     where

@@ -16,15 +16,14 @@ use Rattle.smk_plan_facts.specs.Telling.{directories_of, has_path_texts, is_told
 use Rattle.smk_plan_states.specs.declared.rows.Rows.{Rows}
 use Rattle.smk_plan_states.specs.Judged.{with_states}
 use Rattle.smk_plan_states.specs.declared.rows.Own.{Own}
-use Rattle.smk_plan_states.specs.Rows.{FitOwn, forced_at, lent, reasons_at}
+use Rattle.smk_plan_states.specs.Rows.{FitOwn, forced_at, reasons_at}
 use Rattle.smk_plan_states.specs.Stays.{told_by}
 use Rattle.smk_plan_table.specs.declared.suspects.Suspect.{Suspect}
 use Rattle.smk_plan_table.specs.Plans.{Agree, IsGiven, IsRefusedAt}
 use Rattle.smk_plan_live.specs.declared.base.Base.{Base}
-use Rattle.smk_plan_live.specs.declared.lending.Lent.{Lent}
 use Rattle.smk_plan_live.specs.Phases.{begun_in, has_begun}
 use Rattle.smk_plan_live.specs.Now.{known_now, seen_now}
-use Rattle.smk_plan_live.specs.Kept.{facts_now, forced_now, own_by, own_now, told_lent}
+use Rattle.smk_plan_live.specs.Kept.{facts_now, forced_now, own_by, own_now, told_by_flags}
 use Rattle.smk_plan_live.specs.Lives.{AreLentNow, AreWhole, IsAgreed, IsTold, judging_of, progress_of}
 use Rattle.smk_plan_live.proofs.Bridge.{reasons_are, forced_are}
 use Rattle.smk_plan_live.proofs.Counted.{as_known, counted_agrees, held_same, made_same, refusal_same, unmarked}
@@ -42,10 +41,10 @@ whole_flags jobs test (m ∷ makers) (f ∷ flags) h made = ap₂ (λ g gs. g �
 
 -- what is lent is told by the rows
 pub rows_tell :
-    (b : Base) (l : Lent) (makers forced : List Bool) (rows : Rows) → rows.outputs.now ≡ l.outputs.items → rows.makers.now ≡ makers → rows.running.now ≡ b.began →
-    told_by rows (own_by b b.jobs.jobs forced) forced ≡ told_lent b l makers forced
+    (b : Base) (l : List (List Bool)) (makers forced : List Bool) (rows : Rows) → rows.outputs.now ≡ l → rows.makers.now ≡ makers → rows.running.now ≡ b.began →
+    told_by rows (own_by b b.jobs.jobs forced) forced ≡ told_by_flags b l makers forced
 rows_tell b l makers forced rows outputs whole running = λ i.
-    record { outputs = lent (outputs i); makers = whole i; reasons = own_by b b.jobs.jobs forced; forced = forced; running = running i }
+    record { outputs = outputs i; makers = whole i; reasons = own_by b b.jobs.jobs forced; forced = forced; running = running i }
 
 module _ (facts_law : FactsAreSo) (wholes_law : WholesAreSo) (b : Base) (settings : Settings) (image : Image) (agrees : IsAgreed image settings b) where
   -- the folder as it counts now
@@ -63,8 +62,8 @@ module _ (facts_law : FactsAreSo) (wholes_law : WholesAreSo) (b : Base) (setting
 
   -- what is lent is so in the folder as it counts now
   pub given_now :
-      (l : Lent) (makers : List Bool) (flags : List Own) (suspects : List Suspect) → AreLentNow settings b l makers flags suspects → (rows : Rows) →
-      rows.outputs.now ≡ l.outputs.items → rows.makers.now ≡ makers → rows.own.now ≡ flags → rows.running.now ≡ b.began →
+      (l : List (List Bool)) (makers : List Bool) (flags : List Own) (suspects : List Suspect) → AreLentNow settings b l makers flags suspects → (rows : Rows) →
+      rows.outputs.now ≡ l → rows.makers.now ≡ makers → rows.own.now ≡ flags → rows.running.now ≡ b.began →
       (begun : List Bool) → begun ≡ map has_begun b.phases →
       IsGiven (judging_of counted_now settings b) b.jobs (known_now b) (seen_now b) rows begun suspects
   given_now l makers flags suspects given rows outputs whole own running begun has =
@@ -75,7 +74,7 @@ module _ (facts_law : FactsAreSo) (wholes_law : WholesAreSo) (b : Base) (setting
       in let none = unmarked image settings (progress_of b) b.jobs (known_now b) (seen_now b) agrees (left_now b) in
       record {
         right = record {
-          outputs = ap lent outputs ∙ given.outputs ∙ ap (λ (w : Wholes). w.outputs) told_wholes.1;
+          outputs = outputs ∙ given.outputs ∙ ap (λ (w : Wholes). w.outputs) told_wholes.1;
           makers = whole
               ∙ whole_flags b.jobs.jobs (is_told_whole (seen_now b) (map (directories_of (known_now b) (seen_now b)) b.jobs.jobs)) b.jobs.makers makers given.whole agree_now.made
               ∙ ap (λ (w : Wholes). w.makers) told_wholes.1;

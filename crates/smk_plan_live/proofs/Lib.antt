@@ -11,6 +11,7 @@ pub mod Users
 pub mod First
 pub mod Judging
 pub mod Grown
+pub mod Makers
 pub mod Stepping
 pub mod Settled
 pub mod Installed

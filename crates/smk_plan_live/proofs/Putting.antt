@@ -1,11 +1,8 @@
 -- Lists of which some elements are put in anew.
-use Rattle.std.proofs.Common.{◌≡◌, ℕ, zero, suc, ◌<◌, ◌≤◌, List, [], ◌∷◌, map, length, Some, refl, sym, ap, ap₂, subst, arith}
+use Rattle.std.proofs.Common.{◌≡◌, ℕ, zero, suc, ◌<◌, ◌≤◌, List, [], ◌∷◌, map, length, Some, refl, ap, ap₂, arith}
 use Rattle.std.specs.Prelude.{slice_set}
-use Rattle.std.specs.Borrow.{Bor}
 use Rattle.std.specs.List.{slice_get}
-use Rattle.std.proofs.lemmas.List.{length-map}
 use Rattle.std.proofs.lemmas.Option.{same_Some, none-some}
-use Rattle.smk_plan_states.specs.Rows.{lent}
 
 -- there is nothing to be put beyond the end
 pub set_beyond : {A : Type 0} (xs : List A) (n : ℕ) (x : A) → length xs ≤ n → slice_set xs n x ≡ xs
@@ -17,19 +14,6 @@ pub set_at : {A : Type 0} (xs : List A) (n : ℕ) (x : A) → n < length xs → 
 set_at [] n x h = absurd (omega (arith, h))
 set_at (y ∷ xs) zero x h = refl
 set_at (y ∷ xs) (suc n) x h = set_at xs n x (omega (arith, h))
-
-pub set_map : {A B : Type 0} (f : A → B) (xs : List A) (n : ℕ) (x : A) → map f (slice_set xs n x) ≡ slice_set (map f xs) n (f x)
-set_map f [] n x = refl
-set_map f (y ∷ xs) zero x = refl
-set_map f (y ∷ xs) (suc n) x = ap (λ ys. f y ∷ ys) (set_map f xs n x)
-
--- ## What is lent
-
-pub lent_set : {A : Type 0} (refs : List (Bor A)) (n : ℕ) (r : Bor A) → lent (slice_set refs n r) ≡ slice_set (lent refs) n r.now
-lent_set {A = A} refs n r = set_map (λ (x : Bor A). x.now) refs n r
-
-pub lent_beyond : {A : Type 0} (refs : List (Bor A)) (n : ℕ) (x : A) → length refs ≤ n → slice_set (lent refs) n x ≡ lent refs
-lent_beyond {A = A} refs n x h = set_beyond (lent refs) n x (subst (λ m. m ≤ n) (sym (length-map refs (λ (y : Bor A). y.now))) h)
 
 -- ## Lists that are made of others
 

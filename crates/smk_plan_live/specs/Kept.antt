@@ -10,10 +10,8 @@ use Rattle.smk_trigger.specs.Reasons.{reasons_of}
 use Rattle.smk_pick.specs.declared.settings.Settings.{Settings}
 use Rattle.smk_plan_facts.specs.Facts.{told_sources}
 use Rattle.smk_plan_facts.specs.Telling.{facts_in, forced_by}
-use Rattle.smk_plan_states.specs.Rows.{lent}
 use Rattle.smk_plan_states.specs.Stays.{Told}
 use Rattle.smk_plan_live.specs.declared.base.Base.{Base}
-use Rattle.smk_plan_live.specs.declared.lending.Lent.{Lent}
 use Rattle.smk_plan_live.specs.Phases.{begun_in}
 use Rattle.smk_plan_live.specs.Now.{known_now, seen_now}
 
@@ -52,7 +50,3 @@ own_by b (j ∷ jobs) (f ∷ forced) = reasons_of (facts_by b f j) ∷ own_by b 
 abbrev pub told_by_flags : Base → List (List Bool) → List Bool → List Bool → Told
 told_by_flags b outputs makers forced =
     record { outputs = outputs; makers = makers; reasons = own_by b b.jobs.jobs forced; forced = forced; running = b.began }
-
--- what is told of the jobs by what is lent of them
-abbrev pub told_lent : Base → Lent → List Bool → List Bool → Told
-told_lent b rows makers forced = told_by_flags b (lent rows.outputs.items) makers forced

@@ -8,6 +8,8 @@ pub mod Same
 pub mod Carried
 pub mod Agreeing
 pub mod Commands
+pub mod Limits
+pub mod Making
 pub mod Live
 pub mod Lives
 pub mod Changes

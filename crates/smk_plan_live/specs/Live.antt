@@ -9,6 +9,7 @@ use Rattle.smk_plan_states.specs.declared.table.Table.{Table}
 use Rattle.smk_plan_states.specs.Standing.{states_by}
 use Rattle.smk_plan_live.specs.declared.base.Base.{Base}
 use Rattle.smk_plan_live.specs.declared.flags.Flags.{Flags}
+use Rattle.smk_plan_live.specs.declared.limits.Limits.{Limits}
 use Rattle.smk_plan_live.specs.Kept.{told_by_flags}
 
 -- The parts of the plan, and the plan itself: its states aren't kept, but come of the ranks.
@@ -22,6 +23,7 @@ pub record LivePlan : Type 0 where
   pub flags : Flags
   pub readers : Vec (List ℕ) Global
   pub commanded : Bool
+  pub limits : Limits
 
 -- the plan by what is kept
 abbrev pub plan_kept : Base → Ranking → List Bool → Listings → Table → Flags → Plan
@@ -29,8 +31,8 @@ plan_kept base ranking current known table flags =
     record { states = states_by table (told_by_flags base flags.outputs flags.makers flags.forced) ranking; current = current; known = known }
 
 -- what is kept, as contracts see it
-abbrev pub seen_as : Base → Settings → Ranking → List Bool → Listings → Bool → Table → Flags → Vec (List ℕ) Global → Bool → LivePlan
-seen_as base settings ranking current known held table flags readers commanded =
+abbrev pub seen_as : Base → Settings → Ranking → List Bool → Listings → Bool → Table → Flags → Vec (List ℕ) Global → Bool → Limits → LivePlan
+seen_as base settings ranking current known held table flags readers commanded limits =
     record {
       base = base;
       settings = settings;
@@ -41,6 +43,7 @@ seen_as base settings ranking current known held table flags readers commanded =
       flags = flags;
       readers = readers;
       commanded = commanded;
+      limits = limits;
     }
 
 -- the same, were this its base

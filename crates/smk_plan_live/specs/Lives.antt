@@ -21,7 +21,7 @@ use Rattle.smk_plan_states.specs.declared.table.Table.{Table}
 use Rattle.smk_plan_states.specs.Ranks.{rank_of}
 use Rattle.smk_plan_states.specs.Served.{AreServed}
 use Rattle.smk_plan_states.specs.Judged.{Judging, any_held_back}
-use Rattle.smk_plan_states.specs.Rows.{FitOwn, lent}
+use Rattle.smk_plan_states.specs.Rows.{FitOwn}
 use Rattle.smk_plan_states.specs.Standing.{FollowsBy, StandsBy}
 use Rattle.smk_plan_states.specs.Stays.{Told as TellsRows}
 use Rattle.smk_plan_states.specs.Tables.{IsTableOf}
@@ -30,12 +30,13 @@ use Rattle.smk_plan_table.specs.Parts.{IsSuspectOf}
 use Rattle.smk_plan_table.specs.Plans.{HasMadeAt, IsRefusedAt}
 use Rattle.smk_plan_live.specs.declared.base.Base.{Base}
 use Rattle.smk_plan_live.specs.declared.flags.Flags.{Flags}
-use Rattle.smk_plan_live.specs.declared.lending.Lent.{Lent}
-use Rattle.smk_plan_live.specs.Kept.{forced_now, own_now, told_by_flags, told_lent}
+use Rattle.smk_plan_live.specs.Kept.{forced_now, own_now, told_by_flags}
 use Rattle.smk_plan_live.specs.Live.{LivePlan}
 use Rattle.smk_plan_live.specs.Agreeing.{AgreesNow}
 use Rattle.smk_plan_live.specs.Carried.{has_name}
 use Rattle.smk_plan_live.specs.Commands.{has_command}
+use Rattle.smk_plan_live.specs.Limits.{AreLimits}
+use Rattle.smk_plan_live.specs.Making.{AreMadeBy}
 use Rattle.smk_plan_live.specs.Phases.{has_begun, progress_in}
 use Rattle.smk_plan_live.specs.Sites.{site_in}
 use Rattle.smk_plan_live.specs.Same.{readers_of}
@@ -108,11 +109,11 @@ pub record AreNamed (b : Base) : Type 0 where
 
 -- What is lent of the jobs is so by what is known and was seen now: which outputs, and which of the makers' paths, are whole, and which have reasons of their own, where that is
 -- told; and nothing is refused of them that isn't suspected.
-pub record AreLentNow (settings : Settings) (b : Base) (rows : Lent) (makers : List Bool) (flags : List Own) (suspects : List Suspect) : Type 0 where
+pub record AreLentNow (settings : Settings) (b : Base) (rows : List (List Bool)) (makers : List Bool) (flags : List Own) (suspects : List Suspect) : Type 0 where
   pub sound : IsSound b
   pub named : AreNamed b
   pub texts : list_all has_path_texts b.jobs.jobs ≡ true
-  pub outputs : lent rows.outputs.items ≡ map (outputs_in (known_now b) (seen_now b)) b.jobs.jobs
+  pub outputs : rows ≡ map (outputs_in (known_now b) (seen_now b)) b.jobs.jobs
   pub whole : AreMakersWhole b makers
   pub own : FitOwn flags (own_now settings b)
   pub doubted : AllZip (IsSuspectOf (known_now b) (seen_now b) settings.bounds) b.jobs.jobs suspects
@@ -120,8 +121,8 @@ pub record AreLentNow (settings : Settings) (b : Base) (rows : Lent) (makers : L
 -- ## What is kept of ranks
 
 -- what was kept of the last plan, if anything, stood then, and what is told now differs from that by a step of one job
-abbrev pub FollowsLent : Settings → Base → Table → Lent → List Bool → List Bool → Option Last → Type 0
-FollowsLent settings b table rows makers forced last = AreServed b.jobs settings.targets → FollowsBy table last (told_lent b rows makers forced)
+abbrev pub FollowsLent : Settings → Base → Table → List (List Bool) → List Bool → List Bool → Option Last → Type 0
+FollowsLent settings b table rows makers forced last = AreServed b.jobs settings.targets → FollowsBy table last (told_by_flags b rows makers forced)
 
 -- what the plan tells of its jobs
 abbrev pub told_live : LivePlan → TellsRows
@@ -136,8 +137,8 @@ abbrev pub AreRanked : Settings → Base → Ranking → Told → Type 0
 AreRanked settings b ranking told = (image : Image) → IsAgreed image settings b → ranking.last.items ≡ map rank_of told.states
 
 -- What is true of each plan that is kept: its base is sound; there is a state for each job, and it is told of each target whether it is current; the jobs are
--- judged by what is known and was seen now; what it tells is by the definitions; what it keeps by numbers, and of ranks, is so; and where all are seen to have
--- commands they have.
+-- judged by what is known and was seen now; what it tells is by the definitions; what it keeps by numbers, and of ranks, is so; where all are seen to have
+-- commands they have; and the limits that are kept are those of its jobs.
 pub record IsLive (p : LivePlan) : Type 0 where
   pub sound : IsSound p.base
   -- each input of a job is a path
@@ -147,8 +148,11 @@ pub record IsLive (p : LivePlan) : Type 0 where
   pub now : IsNow p.settings p.base p.plan p.held
   pub table : IsTableOf p.base.jobs p.settings.targets p.table
   pub flags : AreServed p.base.jobs p.settings.targets → AreFlagsNow p.settings p.base p.flags
+  -- it is kept of each job which makers name it
+  pub made : AreMadeBy p.base.jobs.jobs p.base.jobs.makers p.flags.made
   pub readers : AreServed p.base.jobs p.settings.targets → p.readers.items ≡ readers_of p.base.jobs.jobs
   pub standing : AreServed p.base.jobs p.settings.targets → Stands p
   pub ranked : AreRanked p.settings p.base p.ranking p.plan
   pub named : AreNamed p.base
+  pub limits : AreLimits p.limits p.base.jobs.jobs
   pub commands : p.commanded ≡ true → list_all (has_command p.settings.cores) p.base.jobs.jobs ≡ true

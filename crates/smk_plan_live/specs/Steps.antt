@@ -35,16 +35,18 @@ use Rattle.smk_plan_live.specs.Now.{known_now, seen_now}
 use Rattle.smk_plan_live.specs.Same.{AreSameBut, readers_of}
 use Rattle.smk_plan_live.specs.Carried.{begun_entries, gone_sights, has_name, sight_but}
 use Rattle.smk_plan_live.specs.Kept.{own_now, told_by_flags}
+use Rattle.smk_plan_live.specs.Making.{AreMadeBy}
 use Rattle.smk_plan_live.specs.Lives.{AreFlagsNow, AreNamed, AreRanked, IsLive, IsNow, IsSound}
 use Rattle.smk_plan_live.specs.Phases.{begun_in}
 
 -- ## All jobs
 
--- This is what is kept of all jobs: how their paths hang together, and what is so of them as flags.
+-- This is what is kept of all jobs: how their paths hang together, what is so of them as flags, and which makers name them.
 pub record IsKept (settings : Settings) (b : Base) (kept : Kept) : Type 0 where
   pub texts : list_all has_path_texts b.jobs.jobs ≡ true
   pub table : IsTableOf b.jobs settings.targets kept.table
   pub flags : AreFlagsNow settings b kept.flags
+  pub made : AreMadeBy b.jobs.jobs b.jobs.makers kept.flags.made
   pub readers : IsSound b → AreServed b.jobs settings.targets → kept.readers.items ≡ readers_of b.jobs.jobs
 
 -- the ranks are those by what is kept

@@ -10,6 +10,7 @@ use crate::base::Base;
 use crate::carried::rows_from;
 use crate::commands::are_seen;
 use crate::later::late_of;
+use crate::limits::limits_of;
 use crate::new::{Kept, Told, told_of};
 use crate::sites::sited_of;
 use crate::slots::Slots;
@@ -84,6 +85,7 @@ impl LivePlan {
                 let jobs = next.jobs.jobs.as_slice();
                 let ranks = ranked.ranking.ranks();
                 let commanded = are_seen(alloc, self.settings.cores, jobs, ranks);
+                let limits = limits_of(jobs);
                 self.base = next;
                 self.ranking = ranked.ranking;
                 self.current = ranked.current;
@@ -93,6 +95,7 @@ impl LivePlan {
                 self.flags = flags;
                 self.readers = readers;
                 self.commanded = commanded;
+                self.limits = limits;
                 Ok(())
             }
         }

@@ -16,8 +16,9 @@ mod flags;
 mod growing;
 mod later;
 mod learning;
-mod lending;
+mod limits;
 mod live;
+mod making;
 mod new;
 mod next;
 mod now;
@@ -31,6 +32,7 @@ mod spending;
 mod telling;
 
 pub use base::Base;
+pub use limits::Limits;
 pub use live::LivePlan;
 pub use phase::Phase;
 

@@ -11,7 +11,7 @@ use crate::Phase;
 use crate::base::Base;
 use crate::flags::Flags;
 use crate::learning::{all_own, facts_at, is_forced};
-use crate::lending::{each, lend};
+use crate::limits::Limits;
 use crate::now::{entry_now, sight_now, site_of};
 use smk_base::{List, OutOfMemory, PathText};
 use smk_chain::{Jobs, Listings};
@@ -43,6 +43,8 @@ pub struct LivePlan {
     pub(crate) readers: Vec<List<usize>>,
     /// Whether all jobs are seen to have commands.
     pub(crate) commanded: bool,
+    /// What no job goes beyond, and whether one has a temporary output.
+    pub(crate) limits: Limits,
 }
 
 impl Model for LivePlan {
@@ -54,7 +56,7 @@ impl Model for LivePlan {
 
     ghost coded = { Prim.hlevel (codes, row.the_row.coded) };
 
-    ghost view = { λ r. seen_as r.base r.settings r.ranking r.current r.known r.held r.table r.flags r.readers r.commanded };
+    ghost view = { λ r. seen_as r.base r.settings r.ranking r.current r.known r.held r.table r.flags r.readers r.commanded r.limits };
 }
 
 // The state that the job of the number had when it began, if its child runs.
@@ -74,6 +76,7 @@ impl LivePlan {
     ghost use Rattle.smk_plan_states.specs.Served.{AreServed};
     ghost use Rattle.smk_plan_live.specs.Now.{output_entry, sight_now};
     ghost use Rattle.smk_plan_live.specs.Commands.{has_command};
+    ghost use Rattle.smk_plan_live.specs.Limits.{AreLimits};
 
     /// The rank of each job: what its state is, but for its reasons. It takes no memory.
     pub fn ranks(&self) -> &[Rank]
@@ -149,17 +152,15 @@ impl LivePlan {
         let forced = self.flags.forced.as_slice();
         let jobs = self.base.jobs.jobs.as_slice();
         let own = all_own(alloc, &self.base, jobs, forced)?;
-        let lent = lend(alloc, self.flags.outputs.as_slice())?;
-        let reasons = each(alloc, own.as_slice())?;
         let rows = Rows {
-            outputs: lent.outputs.as_slice(),
+            outputs: self.flags.outputs.as_slice(),
             makers: self.flags.makers.as_slice(),
             own: self.flags.own.as_slice(),
             running: self.base.began.as_slice(),
         };
         let states = self
             .table
-            .states(alloc, &rows, reasons.as_slice(), forced, &self.ranking)?;
+            .states(alloc, &rows, own.as_slice(), forced, &self.ranking)?;
         Ok(states)
     }
 
@@ -239,6 +240,15 @@ impl LivePlan {
         ensures now { IsLive self.now → result ≡ true → list_all (has_command self.now.settings.cores) self.now.base.jobs.jobs ≡ true }
     {
         self.commanded
+    }
+
+    /// What no job goes beyond: a priority that none exceeds and a number of threads that none asks less than, if such are seen; and whether one of them has a
+    /// temporary output. It takes no memory.
+    pub fn limits(&self) -> Limits
+        ensures value { result ≡ self.now.limits }
+        ensures now { IsLive self.now → AreLimits result self.now.base.jobs.jobs }
+    {
+        self.limits
     }
 
     /// What is known of an output of the jobs: what the last closing of its job gave, or else what the store of the call that brought the job has. None where the

@@ -5,7 +5,9 @@ ghost use Rattle.std.specs.List.{list_all};
 ghost use Rattle.smk_store.specs.Images.{Image};
 ghost use Rattle.smk_plan_states.specs.Rows.{own_of};
 ghost use Rattle.smk_plan_live.specs.Kept.{forced_now, own_now};
-ghost use Rattle.smk_plan_facts.specs.Telling.{has_path_texts};
+ghost use Rattle.smk_plan_live.specs.Making.{AreMadeBy};
+ghost use Rattle.smk_plan_live.specs.Now.{known_now, seen_now};
+ghost use Rattle.smk_plan_facts.specs.Telling.{has_path_texts, makers_in};
 ghost use Rattle.smk_plan_table.specs.Plans.{Agree, IsRefused};
 ghost use Rattle.smk_plan_live.specs.Lives.{AreFlagsNow, AreNamed, AreRanked, IsLive, IsAgreed, IsNow, IsSound, IsRefusedNow};
 ghost use Rattle.smk_plan_states.specs.Served.{AreServed};
@@ -17,7 +19,8 @@ use crate::base::Base;
 use crate::carried::first_rows;
 use crate::commands::are_seen;
 use crate::flags::Flags;
-use crate::lending::lend;
+use crate::limits::limits_of;
+use crate::making::made_of;
 use crate::readers::readers_of;
 use crate::sites::sited_of;
 use crate::slots::Slots;
@@ -88,6 +91,15 @@ fn judge_jobs<Rt: Threads + Sync>(
     Ok(Judged { own, forced })
 }
 
+// Which of the paths that the makers tell of are whole.
+fn whole_makers(alloc: Global, base: &Base) -> Result<Slots<bool>, OutOfMemory>
+    ensures { IfOk result (λ flags. flags ≡ makers_in (known_now base.now) (seen_now base.now) base.now.jobs) }
+{
+    let told = makers_told(alloc, base, &base.jobs)?;
+    let flags = Vec::from_slice(alloc, told.as_slice())?;
+    Ok(Slots::of(flags))
+}
+
 // What is whole of the jobs, and what may be refused of them, with what was judged of them.
 fn flags_of(
     alloc: Global,
@@ -97,18 +109,21 @@ fn flags_of(
 ) -> Result<Flags, OutOfMemory>
     requires own { judged.own.items ≡ map own_of (own_now settings.now base.now) }
     requires forced { judged.forced.items ≡ forced_now settings.now base.now }
-    ensures { IfOk result (AreFlagsNow settings.now base.now) }
+    ensures now { IfOk result (AreFlagsNow settings.now base.now) }
+    ensures made { IfOk result (λ flags. AreMadeBy base.now.jobs.jobs base.now.jobs.makers flags.made) }
 {
     let jobs = base.jobs.jobs.as_slice();
     let outputs = all_outputs_told(alloc, base, jobs)?;
-    let makers = makers_told(alloc, base, &base.jobs)?;
+    let makers = whole_makers(alloc, base)?;
     let suspects = suspects_of(alloc, base, &settings.bounds, jobs)?;
+    let made = made_of(alloc, &base.jobs)?;
     Ok(Flags {
         outputs: Slots::of(outputs),
         makers,
         suspects: Slots::of(suspects),
         own: Slots::of(judged.own),
         forced: Slots::of(judged.forced),
+        made: Slots::of(made),
     })
 }
 
@@ -153,20 +168,17 @@ fn tell_kept(
     let forced = kept.flags.forced.as_slice();
     let own = kept.flags.own.as_slice();
     let suspects = kept.flags.suspects.as_slice();
-    match lend(alloc, outputs) {
-        Err(_) => Err(PlanFault::OutOfMemory),
-        Ok(rows) => tell_known(
-            alloc,
-            base,
-            settings,
-            &kept.table,
-            &rows,
-            makers,
-            forced,
-            own,
-            suspects,
-        ),
-    }
+    tell_known(
+        alloc,
+        base,
+        settings,
+        &kept.table,
+        outputs,
+        makers,
+        forced,
+        own,
+        suspects,
+    )
 }
 
 // The same with the plan by it.
@@ -246,6 +258,7 @@ fn over<Rt: Threads + Sync>(
             let Told { kept, ranked, held } = told;
             let jobs = base.jobs.jobs.as_slice();
             let commanded = are_seen(alloc, settings.cores, jobs, ranked.ranking.ranks());
+            let limits = limits_of(jobs);
             Ok(LivePlan {
                 base,
                 settings,
@@ -257,6 +270,7 @@ fn over<Rt: Threads + Sync>(
                 flags: kept.flags,
                 readers: kept.readers,
                 commanded,
+                limits,
             })
         }
     }

@@ -8,12 +8,13 @@ ghost use Rattle.smk_plan_live.specs.Lives.{AreRanked, IsLive, IsNow, IsRefusedN
 ghost use Rattle.smk_plan_states.specs.Rows.{FitOwn};
 ghost use Rattle.smk_plan_live.specs.Kept.{own_now};
 ghost use Rattle.smk_plan_live.specs.Learning.{forgotten};
+ghost use Rattle.smk_plan_live.specs.Making.{AreMadeBy};
 ghost use Rattle.smk_plan_states.specs.Served.{AreServed};
 ghost use Rattle.smk_plan_live.specs.Steps.{IsAhead, IsChangeOf, IsLast, IsNext, StandsNext, plan_next, readers_at};
 
 use crate::LivePlan;
 use crate::learning::forget;
-use crate::lending::lend_with;
+use crate::making::makers_at;
 use crate::slots::{Slots, put_at};
 use crate::telling::{Made, tell};
 use smk_base::{List, OutOfMemory};
@@ -33,7 +34,7 @@ pub(crate) struct Change {
     /// For each of its outputs whether it is whole.
     pub(crate) outputs: List<bool>,
     /// For each maker of the jobs whether its path is whole.
-    pub(crate) makers: List<bool>,
+    pub(crate) makers: Slots<bool>,
     /// For each job what may be refused of it.
     pub(crate) suspects: Vec<Suspect>,
     /// For each job whether it is forced.
@@ -98,7 +99,8 @@ fn forced_but(
 impl LivePlan {
     // What is told anew of the job of the number, which is forced or not.
     fn change_of(&self, alloc: Global, number: usize, forced: bool) -> Result<Change, OutOfMemory>
-        requires { number < length self.now.base.jobs.jobs }
+        requires within { number < length self.now.base.jobs.jobs }
+        requires made { AreMadeBy self.now.base.jobs.jobs self.now.base.jobs.makers self.now.flags.made }
         ensures { IfOk result (IsChangeOf self.now number forced) }
     {
         let base = &self.base;
@@ -106,8 +108,10 @@ impl LivePlan {
         let job = job_at(jobs, number);
         let outputs = outputs_told(alloc, base, job)?;
         let told = base.jobs.makers.as_slice();
+        let made = self.flags.made.as_slice();
+        let numbers = makers_at(made, number);
         let flags = self.flags.makers.as_slice();
-        let makers = makers_again(alloc, base, number, job, told, flags)?;
+        let makers = makers_again(alloc, base, number, job, told, numbers, flags)?;
         let suspect = suspect_of(base, &self.settings.bounds, job);
         let before = self.flags.suspects.as_slice();
         let suspects = suspects_but(alloc, before, number, suspect)?;
@@ -115,7 +119,7 @@ impl LivePlan {
         Ok(Change {
             number,
             outputs,
-            makers,
+            makers: Slots::of(makers),
             suspects,
             forced,
         })
@@ -133,55 +137,57 @@ impl LivePlan {
         }
     }
 
-    // The plan with what is told anew of the job of the number, which is forced or not, and which jobs have reasons of their own then, so far as that is known.
+    // The plan with what is told anew of the job of the number, which is forced or not, and which jobs have reasons of their own then, so far as that is known. Meanwhile the
+    // outputs that are told anew stand in the place of those that are kept.
     fn tell_changed<J: Judge>(
-        &self,
+        &mut self,
         alloc: Global,
         number: usize,
         forced: bool,
-        change: &Change,
+        change: &mut Change,
         own: &mut Vec<Own>,
         judge: &J,
     ) -> Result<Made, PlanFault>
-        requires table { IsTableOf self.now.base.jobs self.now.settings.targets self.now.table }
-        requires ahead { IsAhead self.now number forced }
-        requires change { IsChangeOf self.now number forced change.now }
-        requires own { own.old.items ≡ forgotten (slice_set self.now.flags.own number Own.Unknown) (readers_at self.now.readers.items number) }
-        ensures own { AreServed self.now.base.jobs self.now.settings.targets → FitOwn own.new.items (own_now self.now.settings self.now.base) }
-        ensures targets { IfOk result (λ made. length made.ranked.current ≡ length self.now.settings.targets) }
-        ensures now { IfOk result (λ made. IsNow self.now.settings self.now.base (plan_next self.now change.now made.ranked) made.held) }
-        ensures standing { IfOk result (λ made. AreServed self.now.base.jobs self.now.settings.targets → StandsNext self.now change.now made.ranked.ranking) }
-        ensures ranked { IfOk result (λ made. AreRanked self.now.settings self.now.base made.ranked.ranking (plan_next self.now change.now made.ranked)) }
-        ensures refused { IfErr result (λ fault. fault ≢ PlanFault.OutOfMemory → IsRefusedNow self.now.settings self.now.base fault) }
+        requires table { IsTableOf self.old.base.jobs self.old.settings.targets self.old.table }
+        requires ahead { IsAhead self.old number forced }
+        requires change { IsChangeOf self.old number forced change.old }
+        requires own { own.old.items ≡ forgotten (slice_set self.old.flags.own number Own.Unknown) (readers_at self.old.readers.items number) }
+        ensures same { (self.new ≡ self.old) × (change.new ≡ change.old) }
+        ensures own { AreServed self.old.base.jobs self.old.settings.targets → FitOwn own.new.items (own_now self.old.settings self.old.base) }
+        ensures targets { IfOk result (λ made. length made.ranked.current ≡ length self.old.settings.targets) }
+        ensures now { IfOk result (λ made. IsNow self.old.settings self.old.base (plan_next self.old change.old made.ranked) made.held) }
+        ensures standing { IfOk result (λ made. AreServed self.old.base.jobs self.old.settings.targets → StandsNext self.old change.old made.ranked.ranking) }
+        ensures ranked { IfOk result (λ made. AreRanked self.old.settings self.old.base made.ranked.ranking (plan_next self.old change.old made.ranked)) }
+        ensures refused { IfErr result (λ fault. fault ≢ PlanFault.OutOfMemory → IsRefusedNow self.old.settings self.old.base fault) }
     {
+        self.flags.outputs.exchange(number, &mut change.outputs);
         let last = self.last(number);
         let readers = last.readers;
         let outputs = self.flags.outputs.as_slice();
         let makers = change.makers.as_slice();
         let forces = change.forced.as_slice();
         let suspects = change.suspects.as_slice();
-        match lend_with(alloc, outputs, change) {
-            Err(_) => Err(PlanFault::OutOfMemory),
-            Ok(rows) => tell(
-                alloc,
-                &self.base,
-                &self.settings,
-                &self.table,
-                &rows,
-                makers,
-                forces,
-                own,
-                suspects,
-                Some(last),
-                readers,
-                judge,
-            ),
-        }
+        let made = tell(
+            alloc,
+            &self.base,
+            &self.settings,
+            &self.table,
+            outputs,
+            makers,
+            forces,
+            own,
+            suspects,
+            Some(last),
+            readers,
+            judge,
+        );
+        self.flags.outputs.exchange(number, &mut change.outputs);
+        made
     }
 
     // What is new with what is told anew of the job of the number, which is forced or not.
     fn next_by<J: Judge>(
-        &self,
+        &mut self,
         alloc: Global,
         number: usize,
         forced: bool,
@@ -189,15 +195,17 @@ impl LivePlan {
         own: Vec<Own>,
         judge: &J,
     ) -> Result<Next, PlanFault>
-        requires table { IsTableOf self.now.base.jobs self.now.settings.targets self.now.table }
-        requires ahead { IsAhead self.now number forced }
-        requires change { IsChangeOf self.now number forced change }
-        requires own { own.items ≡ forgotten (slice_set self.now.flags.own number Own.Unknown) (readers_at self.now.readers.items number) }
-        ensures next { IfOk result (IsNext self.now number forced) }
-        ensures refused { IfErr result (λ fault. fault ≢ PlanFault.OutOfMemory → IsRefusedNow self.now.settings self.now.base fault) }
+        requires table { IsTableOf self.old.base.jobs self.old.settings.targets self.old.table }
+        requires ahead { IsAhead self.old number forced }
+        requires change { IsChangeOf self.old number forced change }
+        requires own { own.items ≡ forgotten (slice_set self.old.flags.own number Own.Unknown) (readers_at self.old.readers.items number) }
+        ensures same { self.new ≡ self.old }
+        ensures next { IfOk result (IsNext self.old number forced) }
+        ensures refused { IfErr result (λ fault. fault ≢ PlanFault.OutOfMemory → IsRefusedNow self.old.settings self.old.base fault) }
     {
+        let mut change = change;
         let mut own = own;
-        match self.tell_changed(alloc, number, forced, &change, &mut own, judge) {
+        match self.tell_changed(alloc, number, forced, &mut change, &mut own, judge) {
             Err(fault) => Err(fault),
             Ok(made) => Ok(Next {
                 change,
@@ -220,17 +228,19 @@ impl LivePlan {
     // What is new once the base has changed at the outputs of the job of the number, which is forced or not. The judge is asked about those of the job and of its readers on
     // whose reasons something hangs.
     fn next_of<J: Judge>(
-        &self,
+        &mut self,
         alloc: Global,
         number: usize,
         forced: bool,
         judge: &J,
     ) -> Result<Next, PlanFault>
-        requires within { number < length self.now.base.jobs.jobs }
-        requires table { IsTableOf self.now.base.jobs self.now.settings.targets self.now.table }
-        requires ahead { IsAhead self.now number forced }
-        ensures next { IfOk result (IsNext self.now number forced) }
-        ensures refused { IfErr result (λ fault. fault ≢ PlanFault.OutOfMemory → IsRefusedNow self.now.settings self.now.base fault) }
+        requires within { number < length self.old.base.jobs.jobs }
+        requires made { AreMadeBy self.old.base.jobs.jobs self.old.base.jobs.makers self.old.flags.made }
+        requires table { IsTableOf self.old.base.jobs self.old.settings.targets self.old.table }
+        requires ahead { IsAhead self.old number forced }
+        ensures same { self.new ≡ self.old }
+        ensures next { IfOk result (IsNext self.old number forced) }
+        ensures refused { IfErr result (λ fault. fault ≢ PlanFault.OutOfMemory → IsRefusedNow self.old.settings self.old.base fault) }
     {
         match self.change_of(alloc, number, forced) {
             Err(_) => Err(PlanFault::OutOfMemory),
@@ -249,9 +259,10 @@ impl LivePlan {
         ensures outputs { self.new.flags.outputs ≡ slice_set self.old.flags.outputs next.change.number next.change.outputs }
         ensures makers { self.new.flags.makers ≡ next.change.makers }
         ensures suspects { self.new.flags.suspects ≡ next.change.suspects.items }
+        ensures made { self.new.flags.made ≡ self.old.flags.made }
         ensures reasons { (self.new.flags.own ≡ next.own.items) × (self.new.flags.forced ≡ next.change.forced.items) }
         ensures paths { (self.new.table ≡ self.old.table) × (self.new.readers ≡ self.old.readers) }
-        ensures commands { self.new.commanded ≡ self.old.commanded }
+        ensures commands { (self.new.commanded ≡ self.old.commanded) × (self.new.limits ≡ self.old.limits) }
     {
         let Next {
             change,

@@ -130,8 +130,8 @@ fn push_items(
     Ok(())
 }
 
-// No readers for each job.
-fn nobody(alloc: Global, jobs: &[Job]) -> Result<Vec<List<usize>>, OutOfMemory>
+/// No numbers for each job.
+pub(crate) fn nobody(alloc: Global, jobs: &[Job]) -> Result<Vec<List<usize>>, OutOfMemory>
     ensures { IfOk result (λ found. found.items ≡ map (λ j. []) jobs.now) }
 {
     let mut found = Vec::new(alloc);

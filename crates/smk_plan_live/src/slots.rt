@@ -57,6 +57,18 @@ impl<T> Slots<T> {
     }
 }
 
+impl<T> Slots<T> {
+    /// Exchanges the element in the place for this one, where there is one.
+    pub(crate) fn exchange(&mut self, at: usize, element: &mut T)
+        ensures list { self.new ≡ slice_set self.old at element.old }
+        ensures element { element.new ≡ slice_index_or self.old at element.old }
+    {
+        if at < self.elements.len() {
+            mem::swap(&mut self.elements[at], element);
+        }
+    }
+}
+
 impl<T: Drop> Slots<T> {
     /// Puts the element in the place, where there is one.
     pub(crate) fn put(&mut self, at: usize, element: T)

@@ -8,14 +8,13 @@ ghost use Rattle.smk_plan_live.specs.Phases.{has_begun, begun_in};
 ghost use Rattle.smk_plan_states.specs.Standing.{StandsBy};
 ghost use Rattle.smk_plan_table.specs.Plans.{plan_by};
 ghost use Rattle.smk_plan_states.specs.Rows.{FitOwn};
-ghost use Rattle.smk_plan_live.specs.Kept.{forced_now, own_now, told_lent};
+ghost use Rattle.smk_plan_live.specs.Kept.{forced_now, own_now, told_by_flags};
 ghost use Rattle.smk_plan_live.specs.Learning.{FitStill};
 ghost use Rattle.smk_plan_live.specs.Lives.{AreLentNow, AreRanked, FollowsLent, IsNow, IsRefusedNow, IsSound};
 
 use crate::Phase;
 use crate::base::Base;
 use crate::learning::learn_with;
-use crate::lending::Lent;
 use smk_base::{List, OutOfMemory, PathText};
 use smk_chain::first_output;
 use smk_flow::Job;
@@ -114,7 +113,7 @@ fn tell_by(
     base: &Base,
     settings: &Settings,
     table: &Table,
-    lent: &Lent<'_>,
+    outputs: &[List<bool>],
     makers: &[bool],
     forced: &[bool],
     own: &[Own],
@@ -128,21 +127,21 @@ fn tell_by(
     requires forced { AreServed base.now.jobs settings.now.targets → forced.now ≡ forced_now settings.now base.now }
     ensures targets { IfOk result (λ made. length made.ranked.current ≡ length settings.now.targets) }
     ensures standing { IfOk result (λ made. AreServed base.now.jobs settings.now.targets → FitOwn own.now (own_now settings.now base.now)
-        → FollowsLent settings.now base.now table.now lent.now makers.now forced.now last.entry
-        → StandsBy table.now (told_lent base.now lent.now makers.now forced.now) made.ranked.ranking) }
-    ensures ranked { IfOk result (λ made. FollowsLent settings.now base.now table.now lent.now makers.now forced.now last.entry
-        → (AreServed base.now.jobs settings.now.targets → AreLentNow settings.now base.now lent.now makers.now own.now suspects.now)
-        → AreRanked settings.now base.now made.ranked.ranking (plan_by table.now (told_lent base.now lent.now makers.now forced.now) made.ranked)) }
-    ensures now { IfOk result (λ made. FollowsLent settings.now base.now table.now lent.now makers.now forced.now last.entry
-        → (AreServed base.now.jobs settings.now.targets → AreLentNow settings.now base.now lent.now makers.now own.now suspects.now)
-        → IsNow settings.now base.now (plan_by table.now (told_lent base.now lent.now makers.now forced.now) made.ranked) made.held) }
-    ensures refused { IfErr result (λ untold. (fault : PlanFault) → untold ≡ Untold.Fault fault → fault ≢ PlanFault.OutOfMemory → FollowsLent settings.now base.now table.now lent.now makers.now forced.now last.entry
-        → (AreServed base.now.jobs settings.now.targets → AreLentNow settings.now base.now lent.now makers.now own.now suspects.now)
+        → FollowsLent settings.now base.now table.now outputs.now makers.now forced.now last.entry
+        → StandsBy table.now (told_by_flags base.now outputs.now makers.now forced.now) made.ranked.ranking) }
+    ensures ranked { IfOk result (λ made. FollowsLent settings.now base.now table.now outputs.now makers.now forced.now last.entry
+        → (AreServed base.now.jobs settings.now.targets → AreLentNow settings.now base.now outputs.now makers.now own.now suspects.now)
+        → AreRanked settings.now base.now made.ranked.ranking (plan_by table.now (told_by_flags base.now outputs.now makers.now forced.now) made.ranked)) }
+    ensures now { IfOk result (λ made. FollowsLent settings.now base.now table.now outputs.now makers.now forced.now last.entry
+        → (AreServed base.now.jobs settings.now.targets → AreLentNow settings.now base.now outputs.now makers.now own.now suspects.now)
+        → IsNow settings.now base.now (plan_by table.now (told_by_flags base.now outputs.now makers.now forced.now) made.ranked) made.held) }
+    ensures refused { IfErr result (λ untold. (fault : PlanFault) → untold ≡ Untold.Fault fault → fault ≢ PlanFault.OutOfMemory → FollowsLent settings.now base.now table.now outputs.now makers.now forced.now last.entry
+        → (AreServed base.now.jobs settings.now.targets → AreLentNow settings.now base.now outputs.now makers.now own.now suspects.now)
         → IsRefusedNow settings.now base.now fault) }
 {
     told_is_so();
     let rows = Rows {
-        outputs: lent.outputs.as_slice(),
+        outputs,
         makers,
         own,
         running: base.began.as_slice(),
@@ -181,7 +180,7 @@ pub(crate) fn tell<J: Judge>(
     base: &Base,
     settings: &Settings,
     table: &Table,
-    lent: &Lent<'_>,
+    outputs: &[List<bool>],
     makers: &[bool],
     forced: &[bool],
     own: &mut Vec<Own>,
@@ -196,16 +195,16 @@ pub(crate) fn tell<J: Judge>(
     ensures fits { FitStill base.now forced.now own.old.items own.new.items }
     ensures targets { IfOk result (λ made. length made.ranked.current ≡ length settings.now.targets) }
     ensures standing { IfOk result (λ made. AreServed base.now.jobs settings.now.targets → FitOwn own.new.items (own_now settings.now base.now)
-        → FollowsLent settings.now base.now table.now lent.now makers.now forced.now last.entry
-        → StandsBy table.now (told_lent base.now lent.now makers.now forced.now) made.ranked.ranking) }
-    ensures ranked { IfOk result (λ made. FollowsLent settings.now base.now table.now lent.now makers.now forced.now last.entry
-        → (AreServed base.now.jobs settings.now.targets → AreLentNow settings.now base.now lent.now makers.now own.new.items suspects.now)
-        → AreRanked settings.now base.now made.ranked.ranking (plan_by table.now (told_lent base.now lent.now makers.now forced.now) made.ranked)) }
-    ensures now { IfOk result (λ made. FollowsLent settings.now base.now table.now lent.now makers.now forced.now last.entry
-        → (AreServed base.now.jobs settings.now.targets → AreLentNow settings.now base.now lent.now makers.now own.new.items suspects.now)
-        → IsNow settings.now base.now (plan_by table.now (told_lent base.now lent.now makers.now forced.now) made.ranked) made.held) }
-    ensures refused { IfErr result (λ fault. fault ≢ PlanFault.OutOfMemory → FollowsLent settings.now base.now table.now lent.now makers.now forced.now last.entry
-        → (AreServed base.now.jobs settings.now.targets → AreLentNow settings.now base.now lent.now makers.now own.new.items suspects.now)
+        → FollowsLent settings.now base.now table.now outputs.now makers.now forced.now last.entry
+        → StandsBy table.now (told_by_flags base.now outputs.now makers.now forced.now) made.ranked.ranking) }
+    ensures ranked { IfOk result (λ made. FollowsLent settings.now base.now table.now outputs.now makers.now forced.now last.entry
+        → (AreServed base.now.jobs settings.now.targets → AreLentNow settings.now base.now outputs.now makers.now own.new.items suspects.now)
+        → AreRanked settings.now base.now made.ranked.ranking (plan_by table.now (told_by_flags base.now outputs.now makers.now forced.now) made.ranked)) }
+    ensures now { IfOk result (λ made. FollowsLent settings.now base.now table.now outputs.now makers.now forced.now last.entry
+        → (AreServed base.now.jobs settings.now.targets → AreLentNow settings.now base.now outputs.now makers.now own.new.items suspects.now)
+        → IsNow settings.now base.now (plan_by table.now (told_by_flags base.now outputs.now makers.now forced.now) made.ranked) made.held) }
+    ensures refused { IfErr result (λ fault. fault ≢ PlanFault.OutOfMemory → FollowsLent settings.now base.now table.now outputs.now makers.now forced.now last.entry
+        → (AreServed base.now.jobs settings.now.targets → AreLentNow settings.now base.now outputs.now makers.now own.new.items suspects.now)
         → IsRefusedNow settings.now base.now fault) }
 {
     let begun = match begun_flags(alloc, base.phases.as_slice()) {
@@ -220,7 +219,7 @@ pub(crate) fn tell<J: Judge>(
             base,
             settings,
             table,
-            lent,
+            outputs,
             makers,
             forced,
             own.as_slice(),
@@ -247,7 +246,7 @@ pub(crate) fn tell_known(
     base: &Base,
     settings: &Settings,
     table: &Table,
-    lent: &Lent<'_>,
+    outputs: &[List<bool>],
     makers: &[bool],
     forced: &[bool],
     own: &[Own],
@@ -258,12 +257,12 @@ pub(crate) fn tell_known(
     requires forced { AreServed base.now.jobs settings.now.targets → forced.now ≡ forced_now settings.now base.now }
     ensures targets { IfOk result (λ made. length made.ranked.current ≡ length settings.now.targets) }
     ensures standing { IfOk result (λ made. AreServed base.now.jobs settings.now.targets → FitOwn own.now (own_now settings.now base.now)
-        → StandsBy table.now (told_lent base.now lent.now makers.now forced.now) made.ranked.ranking) }
-    ensures ranked { IfOk result (λ made. (AreServed base.now.jobs settings.now.targets → AreLentNow settings.now base.now lent.now makers.now own.now suspects.now)
-        → AreRanked settings.now base.now made.ranked.ranking (plan_by table.now (told_lent base.now lent.now makers.now forced.now) made.ranked)) }
-    ensures now { IfOk result (λ made. (AreServed base.now.jobs settings.now.targets → AreLentNow settings.now base.now lent.now makers.now own.now suspects.now)
-        → IsNow settings.now base.now (plan_by table.now (told_lent base.now lent.now makers.now forced.now) made.ranked) made.held) }
-    ensures refused { IfErr result (λ fault. fault ≢ PlanFault.OutOfMemory → (AreServed base.now.jobs settings.now.targets → AreLentNow settings.now base.now lent.now makers.now own.now suspects.now)
+        → StandsBy table.now (told_by_flags base.now outputs.now makers.now forced.now) made.ranked.ranking) }
+    ensures ranked { IfOk result (λ made. (AreServed base.now.jobs settings.now.targets → AreLentNow settings.now base.now outputs.now makers.now own.now suspects.now)
+        → AreRanked settings.now base.now made.ranked.ranking (plan_by table.now (told_by_flags base.now outputs.now makers.now forced.now) made.ranked)) }
+    ensures now { IfOk result (λ made. (AreServed base.now.jobs settings.now.targets → AreLentNow settings.now base.now outputs.now makers.now own.now suspects.now)
+        → IsNow settings.now base.now (plan_by table.now (told_by_flags base.now outputs.now makers.now forced.now) made.ranked) made.held) }
+    ensures refused { IfErr result (λ fault. fault ≢ PlanFault.OutOfMemory → (AreServed base.now.jobs settings.now.targets → AreLentNow settings.now base.now outputs.now makers.now own.now suspects.now)
         → IsRefusedNow settings.now base.now fault) }
 {
     match begun_flags(alloc, base.phases.as_slice()) {
@@ -273,7 +272,7 @@ pub(crate) fn tell_known(
             base,
             settings,
             table,
-            lent,
+            outputs,
             makers,
             forced,
             own,

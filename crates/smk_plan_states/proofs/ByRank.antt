@@ -41,7 +41,7 @@ use Rattle.smk_plan_states.specs.InUse.{in_use_told, is_in_use_told}
 use Rattle.smk_plan_states.specs.First.{first_state, first_by_table, first_states, IsSolved}
 use Rattle.smk_plan_states.specs.Held.{is_kept_in}
 use Rattle.smk_plan_states.specs.Lines.{tells_of, link_to, origin_of, is_listed, is_read, inputs_from, gathered_of, output_of, line_of}
-use Rattle.smk_plan_states.specs.Rows.{has_any, lent, forced_at, reasons_at}
+use Rattle.smk_plan_states.specs.Rows.{has_any, forced_at, reasons_at}
 use Rattle.smk_plan_states.specs.Moment.{IsMoment}
 use Rattle.smk_plan_states.specs.Ranks.{rank_of, rank_at, is_open_rank, is_dirty_rank, is_clean_rank, by_rank, unless_clean_rank, rank_while_running}
 use Rattle.smk_plan_states.specs.Spots.{maker_at, spot_in}
@@ -346,7 +346,7 @@ module _
     pub used_there : get_or used number false ≡ read_now k
     used_there = ap (λ fs. get_or fs number false) (h.read ∙ ap (map read_now) all) ∙ at_split read_now before k after number false count
 
-    pub outputs_there : get_or (lent rows.outputs.now) number [] ≡ whole_outputs at.image k
+    pub outputs_there : get_or rows.outputs.now number [] ≡ whole_outputs at.image k
     outputs_there =
         ap (λ (fs : List (List Bool)). get_or fs number []) (h.told.outputs ∙ ap (map (whole_outputs at.image)) all)
         ∙ at_split (whole_outputs at.image) before k after number [] count

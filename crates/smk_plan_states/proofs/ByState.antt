@@ -1,7 +1,6 @@
 -- What is told by the ranks of some states is told by the states.
 use Rattle.std.proofs.Common.{◌≡◌, ◌∙◌, ◌≤◌, ltb-false, ℕ, zero, suc, arith, Bool, false, length, drop, sym, List, [], ◌∷◌, map, ◌&&◌, ◌||◌, not, refl, ap, Option, Some, None, option_map}
 use Rattle.std.specs.Prelude.{if◌then◌else◌, is_none, nat_lt, zip}
-use Rattle.std.specs.Borrow.{Bor}
 use Rattle.std.specs.List.{list_any, slice_get}
 use Rattle.std.proofs.lemmas.Option.{slice_get-map}
 use Rattle.smk_trigger.specs.declared.reason.State.{State}
@@ -14,7 +13,6 @@ use Rattle.smk_plan_states.specs.declared.ranks.Rank.{Rank}
 use Rattle.smk_plan_states.specs.declared.spots.Spot.{Spot}
 use Rattle.smk_plan_states.specs.Passes.{state_at}
 use Rattle.smk_plan_states.specs.Ranks.{is_clean_rank, is_to_run_rank, rank_at, rank_of}
-use Rattle.smk_plan_states.specs.Rows.{lent}
 use Rattle.smk_plan_states.specs.Spots.{is_ready_spot, is_over_ready}
 use Rattle.smk_plan_states.specs.Ranking.{has_link, is_held_by, is_kept_by, is_lent_lacking, is_needed_by_flags, is_needed_in, is_new_awaited, lacks}
 
@@ -123,11 +121,11 @@ no_flags ranks used rest i end =
     ap (λ us. list_any is_lent_lacking (zip (drop i ranks) (zip us rest))) (none_from used i end) ∙ ap (list_any is_lent_lacking) (zip_none (drop i ranks) (zip [] rest) refl)
 
 -- nor behind the end of the rows
-pub no_rows : (ranks : List Rank) (used : List Bool) (rows : List (Bor (List Bool))) (i : ℕ) → length rows ≤ i →
-    list_any is_lent_lacking (zip (drop i ranks) (zip (drop i used) (lent (drop i rows)))) ≡ false
+pub no_rows : (ranks : List Rank) (used : List Bool) (rows : List (List Bool)) (i : ℕ) → length rows ≤ i →
+    list_any is_lent_lacking (zip (drop i ranks) (zip (drop i used) (drop i rows))) ≡ false
 no_rows ranks used rows i end =
     ap (list_any is_lent_lacking)
-    (zip_none (drop i ranks) (zip (drop i used) (lent (drop i rows))) (zip_none (drop i used) (lent (drop i rows)) (ap lent (none_from rows i end))))
+    (zip_none (drop i ranks) (zip (drop i used) (drop i rows)) (zip_none (drop i used) (drop i rows) (none_from rows i end)))
 
 pub no_less : (m n : ℕ) → false ≡ nat_lt m n → n ≤ m
 no_less m n h = ltb-false m n (sym h)

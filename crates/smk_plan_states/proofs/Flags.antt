@@ -1,12 +1,10 @@
 -- Lists that are gone over side by side, and elements by number.
 use Rattle.std.proofs.Common.{◌≡◌, ◌∙◌, ◌<◌, ℕ, zero, suc, length, take, drop, arith, Bool, true, false, cond, ◌&&◌, List, [], ◌∷◌, ◌++◌, filter, zip, refl, sym, ap}
 use Rattle.std.specs.Prelude.{nat_lt}
-use Rattle.std.specs.Borrow.{Bor}
 use Rattle.std.specs.List.{list_any}
 use Rattle.std.proofs.lemmas.Bool.{ltb-false}
 use Rattle.std.proofs.lemmas.List.{drop_all}
 use Rattle.smk_plan_states.specs.declared.lines.Output.{Output}
-use Rattle.smk_plan_states.specs.Rows.{lent}
 use Rattle.smk_plan_states.specs.Ranking.{is_gone_with, any_gone}
 
 zip_none : {A B : Type 0} (xs : List A) → zip {K = A} {X = B} xs [] ≡ []
@@ -23,14 +21,14 @@ gone_past test outputs flags i past e =
     ∙ ap (λ (fs : List Bool). any_gone test (drop i outputs) fs) (drop_all i flags (ltb-false i (length flags) (sym past)))
     ∙ ap (list_any (is_gone_with test)) (zip_none (drop i outputs)))
 
--- so it is of flags that are lent
-pub lent_past :
-    {A B : Type 0} (test : A × B → Bool) (xs : List A) (refs : List (Bor B)) (i : ℕ) → false ≡ nat_lt i (length refs) →
-    list_any test (zip xs (lent refs)) ≡ list_any test (zip (drop i xs) (lent (drop i refs))) → false ≡ list_any test (zip xs (lent refs))
-lent_past {A} {B} test xs refs i past e =
+-- nor does any pass behind the end of the rows
+pub rows_past :
+    {A B : Type 0} (test : A × B → Bool) (xs : List A) (rows : List B) (i : ℕ) → false ≡ nat_lt i (length rows) →
+    list_any test (zip xs rows) ≡ list_any test (zip (drop i xs) (drop i rows)) → false ≡ list_any test (zip xs rows)
+rows_past {A} {B} test xs rows i past e =
     sym
     (e
-    ∙ ap (λ (rs : List (Bor B)). list_any test (zip (drop i xs) (lent rs))) (drop_all i refs (ltb-false i (length refs) (sym past)))
+    ∙ ap (λ (rs : List B). list_any test (zip (drop i xs) rs)) (drop_all i rows (ltb-false i (length rows) (sym past)))
     ∙ ap (list_any test) (zip_none (drop i xs)))
 
 -- the element in a place, with what stands before it and after it

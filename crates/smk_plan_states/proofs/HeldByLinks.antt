@@ -16,7 +16,6 @@ use Rattle.smk_plan_states.specs.Judged.{Judging, any_held_back, with_states}
 use Rattle.smk_plan_states.specs.Parts.{gone_outputs, parts_of}
 use Rattle.smk_plan_states.specs.Held.{is_needed_by, needed_told}
 use Rattle.smk_plan_states.specs.Lines.{origin_of, line_of}
-use Rattle.smk_plan_states.specs.Rows.{lent}
 use Rattle.smk_plan_states.specs.Moment.{IsMoment}
 use Rattle.smk_plan_states.proofs.ByState.{run_state, needed_state, held_state}
 use Rattle.smk_laws_plan.proofs.CurrentLists.{In}
@@ -72,7 +71,7 @@ module _
       ∙ held_one at.image at.settings at.progress J at.settings.targets (told_paths at J ss lines origins rows used h) (told_parts at J ss lines origins rows used h) ss
       (map kept_now J.jobs) refl h.served h.solved solved.paths refl refl k there
 
-  pub held_are : list_any (held_state needed) (zip lines (zip ss (zip rows.running.now (zip used (lent rows.outputs.now))))) ≡ any_held_back at J ss
+  pub held_are : list_any (held_state needed) (zip lines (zip ss (zip rows.running.now (zip used rows.outputs.now)))) ≡ any_held_back at J ss
   held_are =
       (λ i. list_any (held_state needed) (zip (h.each_line i) (zip (h.solved i) (zip (h.told.running i) (zip (h.read i) (h.told.outputs i))))))
       ∙ any_five (held_state needed) (line_of J at.settings.targets) late_now kept_now (read_now at J ss lines origins rows used h) (whole_outputs at.image) J.jobs

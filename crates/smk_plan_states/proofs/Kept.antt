@@ -17,14 +17,14 @@ use Rattle.smk_plan_states.specs.Judged.{Judging, AreStates}
 use Rattle.smk_plan_states.specs.Lines.{origin_of}
 use Rattle.smk_plan_states.specs.Moment.{IsMoment}
 use Rattle.smk_plan_states.specs.Ranks.{rank_of}
-use Rattle.smk_plan_states.specs.Ranking.{is_lacking, is_read_by_child}
+use Rattle.smk_plan_states.specs.Ranking.{is_lacking, is_read_by_child, lacking_at}
 use Rattle.smk_plan_states.specs.Rows.{AreRowsAt, FitOwn}
 use Rattle.smk_plan_states.specs.Served.{AreServed}
 use Rattle.smk_plan_states.specs.Standing.{Follows, IsStanding, states_by}
 use Rattle.smk_plan_states.specs.Stays.{Told, told_at, told_by, AreEarlier, AreAfter, AreRowsBut, IsApart, IsUntouched, has_number, reads_of, states_told}
 use Rattle.smk_plan_states.specs.Tables.{IsTableAt, IsTableOf}
 use Rattle.smk_laws_plan.proofs.CurrentLists.{clash_of}
-use Rattle.smk_plan_states.proofs.Lacking.{none_lacking}
+use Rattle.smk_plan_states.proofs.Lacking.{lacking_after, none_lacking}
 use Rattle.smk_plan_states.proofs.Solved.{solved}
 use Rattle.smk_plan_states.proofs.Steps.{got_below, ranks_are, ranks_stay, served_earlier, states_are}
 use Rattle.smk_plan_states.proofs.UsedBy.{used_are}
@@ -35,17 +35,18 @@ pub standing_stays :
     ((n : ℕ) (line : Line) → slice_get lines n ≡ Some line → reads_of origins job line ≡ true → has_number n watchers ≡ true) →
     length t.used.items ≡ length lines → ((n : ℕ) → n < length lines → slice_index_or t.used.items n false ≡ is_read_by_child lines origins now.running n) →
     ((n : ℕ) → n < length lines → slice_index_or doubts n false ≡ false → IsApart job readers watchers r.used.items t.used.items n) →
-    AreAfter lines origins now t.used.items doubts job r.first.items t.first.items →
+    AreAfter lines origins now t.used.items doubts r.plain.items job r.first.items t.first.items → t.plain.items ≡ r.plain.items →
     list_any is_lacking (zip t.first.items now.outputs) ≡ false → t.last.items ≡ t.first.items → IsStanding lines origins now t
-standing_stays lines origins before now r t doubts job readers watchers old rows watched flags reading apart after lacks last =
+standing_stays lines origins before now r t doubts job readers watchers old rows watched flags reading apart after flat lacks last =
     record {
       each_rank = after.each ∙ old.each_rank;
       each_last = ap length last ∙ after.each ∙ old.each_rank;
       each_used = flags;
       reading = reading;
-      ranks = ranks_stay lines origins before now r.used.items t.used.items doubts r.first.items t.first.items job readers old.ranks rows after.others after.told others;
+      ranks = ranks_stay lines origins before now r.used.items t.used.items doubts r.plain.items r.first.items t.first.items job readers old.plain old.ranks rows after.others after.told others;
       whole = λ e. lacks;
       last = λ e. last;
+      plain = flat ∙ old.plain;
     }
   where
     unread : (n : ℕ) (line : Line) → slice_get lines n ≡ Some line → has_number n watchers ≡ false → reads_of origins job line ≡ false
@@ -61,22 +62,27 @@ standing_stays lines origins before now r t doubts job readers watchers old rows
         record { other = x.other; no_reader = x.no_reader; unread = unread n line e x.no_watcher; reading = x.reading }
 
 pub stands_after :
-    (lines : List Line) (origins : List Origin) (now : Told) (watchers : List ℕ) (job : ℕ) (readers : List ℕ) (was used told doubts given : List Bool) (ranks gone : List Rank)
+    (lines : List Line) (origins : List Origin) (now : Told) (watchers : List ℕ) (job : ℕ) (readers : List ℕ) (was used told doubts given plain : List Bool) (ranks gone : List Rank)
     (ranking t : Ranking) →
-    was ≡ ranking.used.items → used ≡ t.used.items → told ≡ t.used.items → given ≡ doubts → ranks ≡ ranking.first.items → t.first.items ≡ gone → t.last.items ≡ t.first.items →
-    ((n : ℕ) → n < length lines → slice_index_or doubts n false ≡ false → IsApart job readers watchers was used n) → AreAfter lines origins now told given job ranks gone → list_any is_lacking (zip gone now.outputs) ≡ false →
+    was ≡ ranking.used.items → used ≡ t.used.items → told ≡ t.used.items → given ≡ doubts → plain ≡ ranking.plain.items → t.plain.items ≡ ranking.plain.items → ranks ≡ ranking.first.items → t.first.items ≡ gone → t.last.items ≡ t.first.items →
+    ((n : ℕ) → n < length lines → slice_index_or doubts n false ≡ false → IsApart job readers watchers was used n) → AreAfter lines origins now told given plain job ranks gone → lacking_at gone now.outputs job ≡ false → ranking.lacking ≡ false →
     (before : Told) → IsStanding lines origins before ranking → AreRowsBut origins job readers before now →
     ((n : ℕ) (line : Line) → slice_get lines n ≡ Some line → reads_of origins job line ≡ true → has_number n watchers ≡ true) →
     length t.used.items ≡ length lines → ((n : ℕ) → n < length lines → slice_index_or t.used.items n false ≡ is_read_by_child lines origins now.running n) → IsStanding lines origins now t
-stands_after lines origins now watchers job readers was used told doubts given ranks gone ranking t was_is used_is told_is given_is ranks_are first_is last apart went whole before old rows watched flags reading =
+stands_after lines origins now watchers job readers was used told doubts given plain ranks gone ranking t was_is used_is told_is given_is plain_is flat ranks_are first_is last apart went own whole before old rows watched
+    flags reading =
     standing_stays lines origins before now ranking t doubts job readers watchers old rows watched flags reading
     (λ n lt d.
     subst (λ us. IsApart job readers watchers ranking.used.items us n) used_is (subst (λ ws. IsApart job readers watchers ws used n) was_is (apart n lt d)))
-    (subst (λ (first : List Rank). AreAfter lines origins now t.used.items doubts job ranking.first.items first) (sym first_is)
-    (subst (λ (rs : List Rank). AreAfter lines origins now t.used.items doubts job rs gone) ranks_are
-    (subst (λ ds. AreAfter lines origins now t.used.items ds job ranks gone) given_is
-    (subst (λ us. AreAfter lines origins now us given job ranks gone) told_is went))))
-    (ap (λ (first : List Rank). list_any is_lacking (zip first now.outputs)) first_is ∙ whole)
+    (subst (λ (first : List Rank). AreAfter lines origins now t.used.items doubts ranking.plain.items job ranking.first.items first) (sym first_is)
+    (subst (λ (rs : List Rank). AreAfter lines origins now t.used.items doubts ranking.plain.items job rs gone) ranks_are
+    (subst (λ ps. AreAfter lines origins now t.used.items doubts ps job ranks gone) plain_is
+    (subst (λ ds. AreAfter lines origins now t.used.items ds plain job ranks gone) given_is
+    (subst (λ us. AreAfter lines origins now us given plain job ranks gone) told_is went)))))
+    flat
+    (ap (λ (first : List Rank). list_any is_lacking (zip first now.outputs)) first_is
+    ∙ lacking_after ranking.first.items gone before.outputs now.outputs job (λ m other. went.others m other ∙ ap (λ (rs : List Rank). slice_get rs m) ranks_are)
+    rows.outputs (old.whole whole) own)
     last
 
 -- ## By the table

@@ -1,6 +1,7 @@
 -- Where no job that is Clean lacks an output, nothing is wanted back by jobs that are to run, and none is held back.
-use Rattle.std.proofs.Common.{◌≡◌, ◌∙◌, Bool, true, false, not, cond, ◌&&◌, ◌||◌, List, [], ◌∷◌, ◌++◌, map, filter, zip, refl, sym, ap, inl, inr, is_none}
-use Rattle.std.specs.List.{list_any}
+use Rattle.std.proofs.Common.{◌≡◌, ◌∙◌, ℕ, zero, suc, ◌==◌, Bool, true, false, not, cond, ◌&&◌, ◌||◌, List, [], ◌∷◌, ◌++◌, map, filter, zip, Option, Some, None, refl, sym, ap, ap₂, inl, inr, is_none}
+use Rattle.std.specs.List.{list_any, slice_get}
+use Rattle.std.proofs.lemmas.Bool.{eqb-true}
 use Rattle.smk_world.specs.declared.recipe.Out.{Out}
 use Rattle.smk_world.specs.Trees.{Path, outs_of}
 use Rattle.smk_flow.specs.declared.job.Job.{Job}
@@ -22,12 +23,11 @@ use Rattle.smk_plan_states.specs.First.{first_states, unless_needed}
 use Rattle.smk_plan_states.specs.Held.{is_kept_in, needed_told}
 use Rattle.smk_plan_states.specs.InUse.{is_in_use_told}
 use Rattle.smk_plan_states.specs.Lines.{output_of}
-use Rattle.smk_plan_states.specs.Rows.{lent}
 use Rattle.smk_plan_states.specs.Moment.{IsMoment}
 use Rattle.smk_plan_states.specs.Ranks.{rank_of, is_clean_rank}
-use Rattle.smk_plan_states.specs.Ranking.{lacks, is_lacking}
+use Rattle.smk_plan_states.specs.Ranking.{lacks, is_lacking, is_lent_lacking, lacking_at, lacking_if}
 use Rattle.smk_plan_states.proofs.ByState.{lent_state}
-use Rattle.smk_laws_plan.proofs.CurrentLists.{In, any_from, clash_of}
+use Rattle.smk_laws_plan.proofs.CurrentLists.{In, any_from, clash_of, some_inj}
 use Rattle.smk_laws_plan.proofs.CurrentRecipes.{map_same}
 use Rattle.smk_laws_plan.proofs.PlanStates.{any_same}
 use Rattle.smk_plan_states.proofs.Tests.{any_never}
@@ -51,6 +51,90 @@ none_in test xs x h i = go (test x) refl
     go : (b : Bool) → test x ≡ b → b ≡ false
     go false e = refl
     go true e = absurd (clash_of (list_any test xs) (any_from test xs x i e) h)
+
+-- one that isn't so in a list of which none is
+none_at : {A : Type 0} (test : A → Bool) (xs : List A) (n : ℕ) (x : A) → list_any test xs ≡ false → slice_get xs n ≡ Some x → test x ≡ false
+none_at test [] n x h e = cc
+none_at test (y ∷ xs) zero x h e = ap test (sym (some_inj y x e)) ∙ first (test y) (list_any test xs) h
+  where
+    first : (a b : Bool) → (a || b) ≡ false → a ≡ false
+    first true b h = cc
+    first false b h = refl
+none_at test (y ∷ xs) (suc n) x h e = none_at test xs n x (rest (test y) (list_any test xs) h) e
+  where
+    rest : (a b : Bool) → (a || b) ≡ false → b ≡ false
+    rest true b h = cc
+    rest false b h = h
+
+none_all : {A : Type 0} (test : A → Bool) (xs : List A) → ((n : ℕ) (x : A) → slice_get xs n ≡ Some x → test x ≡ false) → list_any test xs ≡ false
+none_all test [] h = refl
+none_all test (y ∷ xs) h = ap (λ b. b || list_any test xs) (h zero y refl) ∙ none_all test xs (λ n x e. h (suc n) x e)
+
+both_of : {A B : Type 0} → Option A → Option B → Option (A × B)
+both_of None y = None
+both_of (Some x) None = None
+both_of (Some x) (Some y) = Some (x, y)
+
+zip_get : {A B : Type 0} (xs : List A) (ys : List B) (n : ℕ) → slice_get (zip xs ys) n ≡ both_of (slice_get xs n) (slice_get ys n)
+unfolding both_of
+zip_get [] ys n = refl
+zip_get {A = A} {B = B} (x ∷ xs) [] n = go (slice_get (x ∷ xs) n)
+  where
+    go : (o : Option A) → None ≡ both_of {B = B} o None
+    go None = refl
+    go (Some y) = refl
+zip_get (x ∷ xs) (y ∷ ys) zero = refl
+zip_get (x ∷ xs) (y ∷ ys) (suc n) = zip_get xs ys n
+
+lacking_get : (ranks : List Rank) (rows : List (List Bool)) (n : ℕ) (e : Rank × List Bool) → slice_get (zip ranks rows) n ≡ Some e → is_lacking e ≡ lacking_at ranks rows n
+unfolding both_of
+lacking_get ranks rows n e at = go (slice_get ranks n) (slice_get rows n) (sym (zip_get ranks rows n) ∙ at)
+  where
+    go : (o : Option Rank) (p : Option (List Bool)) → both_of o p ≡ Some e → is_lacking e ≡ lacking_if o p
+    go None p at = cc
+    go (Some r) None at = cc
+    go (Some r) (Some fs) at = ap is_lacking (sym (some_inj (r, fs) e at))
+
+lacking_none : (ranks : List Rank) (rows : List (List Bool)) (n : ℕ) → list_any is_lacking (zip ranks rows) ≡ false → lacking_at ranks rows n ≡ false
+unfolding both_of
+lacking_none ranks rows n none = go (slice_get ranks n) (slice_get rows n) (zip_get ranks rows n)
+  where
+    go : (o : Option Rank) (p : Option (List Bool)) → slice_get (zip ranks rows) n ≡ both_of o p → lacking_if o p ≡ false
+    go None p at = refl
+    go (Some r) None at = refl
+    go (Some r) (Some fs) at = none_at is_lacking (zip ranks rows) n (r, fs) none at
+
+-- where no other job's rank and outputs have changed, and the job itself doesn't, none lacks an output that is Clean
+pub lacking_after :
+    (before now : List Rank) (was are : List (List Bool)) (job : ℕ) → ((m : ℕ) → (m == job) ≡ false → slice_get now m ≡ slice_get before m) →
+    ((m : ℕ) → (m == job) ≡ false → slice_get are m ≡ slice_get was m) → list_any is_lacking (zip before was) ≡ false → lacking_at now are job ≡ false →
+    list_any is_lacking (zip now are) ≡ false
+lacking_after before now was are job ranks rows none own =
+    none_all is_lacking (zip now are) (λ n e at. lacking_get now are n e at ∙ go n (n == job) refl)
+  where
+    go : (n : ℕ) (b : Bool) → (n == job) ≡ b → lacking_at now are n ≡ false
+    go n true is = ap (lacking_at now are) (eqb-true n job is) ∙ own
+    go n false other = ap₂ lacking_if (ranks n other) (rows n other) ∙ lacking_none before was n none
+
+-- then none lacks one of which a child reads
+pub lent_unless : (ranks : List Rank) (used : List Bool) (rows : List (List Bool)) → list_any is_lacking (zip ranks rows) ≡ false → list_any is_lent_lacking (zip ranks (zip used rows)) ≡ false
+lent_unless [] used rows none = refl
+lent_unless (r ∷ ranks) [] rows none = refl
+lent_unless (r ∷ ranks) (u ∷ used) [] none = refl
+lent_unless (r ∷ ranks) (u ∷ used) (fs ∷ rows) none = go (is_clean_rank r) u (lacks fs) none (lent_unless ranks used rows)
+  where
+    go :
+        (clean u lack : Bool) → ((clean && lack) || list_any is_lacking (zip ranks rows)) ≡ false →
+        (list_any is_lacking (zip ranks rows) ≡ false → list_any is_lent_lacking (zip ranks (zip used rows)) ≡ false) →
+        ((clean && (u && lack)) || list_any is_lent_lacking (zip ranks (zip used rows))) ≡ false
+    go false u lack h more = more h
+    go true false lack h more = more (rest lack (list_any is_lacking (zip ranks rows)) h)
+      where
+        rest : (a b : Bool) → (a || b) ≡ false → b ≡ false
+        rest true b h = cc
+        rest false b h = h
+    go true true true h more = cc
+    go true true false h more = more h
 
 -- where all outputs are whole none of those that are gone passes
 gone_none : (image : Image) (W : Path → Bool) (j : Job) → lacks (whole_outputs image j) ≡ false → list_any W (gone_outputs image j) ≡ false
@@ -91,7 +175,7 @@ module _
 
   -- the first ranks are the last ones
   pub none_lacking :
-      (first : List Rank) → list_any is_lacking (zip first (lent rows.outputs.now)) ≡ false → first ≡ map rank_of (first_states at J ss) → first ≡ map rank_of ss
+      (first : List Rank) → list_any is_lacking (zip first rows.outputs.now) ≡ false → first ≡ map rank_of (first_states at J ss) → first ≡ map rank_of ss
   none_lacking first quiet is =
       is ∙ ap (map rank_of) (map_same first_of late J.jobs one ∙ sym h.solved)
     where
@@ -114,7 +198,7 @@ module _
           (is_solved at J ss lines origins rows used h) p.0 k p.1 p.2 needs (λ q. refl)
 
   -- no job is held back
-  pub none_held : list_any lent_state (zip ss (zip used (lent rows.outputs.now))) ≡ false → any_held_back at J ss ≡ false
+  pub none_held : list_any lent_state (zip ss (zip used rows.outputs.now)) ≡ false → any_held_back at J ss ≡ false
   none_held quiet =
       any_same (is_held_back at.image at.settings at.progress (with_states J ss)) (λ j. false) J.jobs one ∙ any_never J.jobs
     where

@@ -19,6 +19,7 @@ mod Building
 mod HeldByLinks
 mod Lacking
 mod Steps
+mod Still
 mod Kept
 mod LookUps
 pub mod Linked

@@ -1,5 +1,5 @@
 -- The ranks of the first pass are told by themselves: so they stay through a step of one job, where each that is doubted comes out as it was.
-use Rattle.std.proofs.Common.{◌≡◌, ◌∙◌, ◌<◌, ◌≤◌, ◌+◌, ◌==◌, ℕ, zero, suc, length, take, drop, get_or, add-one, arith, Bool, true, false, not, ◌&&◌, ◌||◌, List, [], ◌∷◌, ◌++◌, map, find, refl, sym, ap, subst, Option, Some, None, option_map, is_some, true≢false}
+use Rattle.std.proofs.Common.{◌≡◌, ◌∙◌, ◌<◌, ◌≤◌, ◌+◌, ◌==◌, ℕ, zero, suc, length, take, drop, get_or, add-one, arith, Bool, true, false, not, ◌&&◌, ◌||◌, List, [], ◌∷◌, ◌++◌, map, find, refl, sym, ap, subst, inl, inr, Option, Some, None, option_map, is_some, true≢false}
 use Rattle.std.specs.Prelude.{nat_eq, slice_index_or, if◌then◌else◌}
 use Rattle.std.specs.List.{list_any, slice_get}
 use Rattle.std.specs.Option.{option_and_then}
@@ -18,7 +18,7 @@ use Rattle.smk_plan_states.specs.declared.lines.Input.{Input}
 use Rattle.smk_plan_states.specs.declared.lines.Line.{Line}
 use Rattle.smk_plan_states.specs.declared.lines.Origin.{Origin}
 use Rattle.smk_plan_states.specs.declared.ranks.Rank.{Rank}
-use Rattle.smk_plan_states.specs.declared.ranks.Rank.TheVariants.{Open as AtOpen}
+use Rattle.smk_plan_states.specs.declared.ranks.Rank.TheVariants.{Open as AtOpen, Dirty as AtDirty}
 use Rattle.smk_plan_states.specs.declared.rows.Rows.{Rows}
 use Rattle.smk_plan_states.specs.declared.spots.Spot.{Spot}
 use Rattle.smk_plan_states.specs.Served.{AreServed, IsBelow, ReadEarlier}
@@ -30,7 +30,7 @@ use Rattle.smk_plan_states.specs.Rows.{has_any, forced_at, reasons_at}
 use Rattle.smk_plan_states.specs.Ranks.{rank_of, rank_at, is_open_rank, is_dirty_rank, is_clean_rank, by_rank, rank_while_running, state_by}
 use Rattle.smk_plan_states.specs.Spots.{maker_at, spot_of}
 use Rattle.smk_plan_states.specs.Ranking.{reading_opens_by, gathering_opens_by, input_opens, gathered_opens, is_upstream, is_kept_by, first_rank, is_link, upstream_paths}
-use Rattle.smk_plan_states.specs.Stays.{Told, told_at, spot_told, rank_told, OfSome, OfLine, IsByEarlier, AreEarlier, AreFirst, AreRowsBut, IsUntouched, alone_in, but_last, has_number, is_made_by, reads_of, state_told, states_from, states_told}
+use Rattle.smk_plan_states.specs.Stays.{Told, told_at, spot_told, rank_told, OfSome, OfLine, IsByEarlier, AreEarlier, AreFirst, AreRowsBut, IsStillDirty, IsToldBy, IsUntouched, alone_in, but_last, has_number, is_made_by, is_plain, reads_of, state_told, states_from, states_told}
 use Rattle.std.proofs.lemmas.List.{map-append, length-map, take_all}
 use Rattle.std.proofs.lemmas.Option.{slice_get-map, get_or_from_slice_get}
 use Rattle.std.proofs.lemmas.Bool.{eqb-true, eqb-false, eq-eqb}
@@ -42,6 +42,7 @@ use Rattle.smk_plan_states.proofs.ByRank.{early, size, here, line_there, used_th
 use Rattle.smk_plan_states.proofs.FirstPass.{own_of}
 use Rattle.smk_plan_states.proofs.Building.{state_here}
 use Rattle.smk_plan_states.proofs.Flags.{split_at}
+use Rattle.smk_plan_states.proofs.Still.{or_false, index_alike, flag_there, stays_dirty}
 
 -- ## Lists
 
@@ -49,19 +50,6 @@ pub got_below : {A : Type 0} (xs : List A) (n : ℕ) (x : A) → slice_get xs n 
 got_below [] n x e = absurd (none_some None x refl e)
 got_below (y ∷ xs) zero x e = omega arith
 got_below (y ∷ xs) (suc n) x e = let lt = got_below xs n x e in omega (arith, lt)
-
-or_false : (a b : Bool) → (a || b) ≡ false → (a ≡ false) × (b ≡ false)
-or_false false b h = (refl, h)
-or_false true b h = absurd (true≢false h)
-
-index_alike : {A : Type 0} (xs ys : List A) (n : ℕ) (d : A) → slice_get xs n ≡ slice_get ys n → slice_index_or xs n d ≡ slice_index_or ys n d
-index_alike [] [] n d e = refl
-index_alike [] (y ∷ ys) zero d e = absurd (none_some None y refl e)
-index_alike [] (y ∷ ys) (suc n) d e = index_alike [] ys n d e
-index_alike (x ∷ xs) [] zero d e = absurd (none_some None x refl (sym e))
-index_alike (x ∷ xs) [] (suc n) d e = index_alike xs [] n d e
-index_alike (x ∷ xs) (y ∷ ys) zero d e = some_inj x y e
-index_alike (x ∷ xs) (y ∷ ys) (suc n) d e = index_alike xs ys n d e
 
 any_alike : {A : Type 0} (P : A → Type 0) (f g : A → Bool) → ((x : A) → P x → f x ≡ g x) → (xs : List A) → Each P xs → list_any f xs ≡ list_any g xs
 any_alike P f g h [] all = refl
@@ -281,12 +269,12 @@ module _
 
 -- the ranks of the first pass stay, where each that is doubted is told by them, and of all others what they are told by stays
 pub ranks_stay :
-    (lines : List Line) (origins : List Origin) (before now : Told) (was used doubts : List Bool) (u v : List Rank) (job : ℕ) (readers : List ℕ) →
+    (lines : List Line) (origins : List Origin) (before now : Told) (was used doubts plain : List Bool) (u v : List Rank) (job : ℕ) (readers : List ℕ) → plain ≡ map (is_plain origins) lines →
     AreFirst lines origins before was u → AreRowsBut origins job readers before now → ((m : ℕ) → (m == job) ≡ false → slice_get v m ≡ slice_get u m) →
-    ((n : ℕ) (line : Line) → slice_get lines n ≡ Some line → slice_index_or doubts n false ≡ true → slice_get v n ≡ Some (rank_told v origins now line n (slice_index_or used n false))) →
+    ((n : ℕ) (line : Line) → slice_get lines n ≡ Some line → slice_index_or doubts n false ≡ true → IsToldBy origins now used plain job v n line) →
     ((n : ℕ) (line : Line) → slice_get lines n ≡ Some line → slice_index_or doubts n false ≡ false → IsUntouched origins job readers was used n line) →
     AreFirst lines origins now used v
-ranks_stay lines origins before now was used doubts u v job readers first rows agree checked others = record { each = each }
+ranks_stay lines origins before now was used doubts plain u v job readers plain_is first rows agree checked others = record { each = each }
   where
     apart : (link : Option ℕ) → is_made_by origins job link ≡ false → OfSome (λ m. (m == job) ≡ false) (maker_at origins link)
     apart link e = go (maker_at origins link) e
@@ -305,11 +293,23 @@ ranks_stay lines origins before now was used doubts u v job readers first rows a
     job_apart None e = refl
     job_apart (Some m) e = e
 
+    still : (n : ℕ) (line : Line) → slice_get lines n ≡ Some line → IsStillDirty origins plain job v n line → rank_told v origins now line n (slice_index_or used n false) ≡ AtDirty
+    still n line e s =
+        stays_dirty origins v u now before job agree s.shut line n (slice_index_or was n false) (slice_index_or used n false)
+        (sym (flag_there (is_plain origins) lines n line e) ∙ ap (λ (flags : List Bool). slice_index_or flags n false) (sym plain_is) ∙ s.plain) s.above (rows.running n s.other)
+        (some_inj (rank_told u origins before line n (slice_index_or was n false)) AtDirty (sym (first.each n line e) ∙ sym (agree n s.other) ∙ s.dirty))
+
+    by_told :
+        (n : ℕ) (line : Line) → slice_get lines n ≡ Some line → IsToldBy origins now used plain job v n line →
+        slice_get v n ≡ Some (rank_told v origins now line n (slice_index_or used n false))
+    by_told n line e (inl told) = told
+    by_told n line e (inr s) = s.dirty ∙ ap Some (sym (still n line e s))
+
     each : (n : ℕ) (line : Line) → slice_get lines n ≡ Some line → slice_get v n ≡ Some (rank_told v origins now line n (slice_index_or used n false))
     each n line e = go (slice_index_or doubts n false) refl
       where
         go : (b : Bool) → slice_index_or doubts n false ≡ b → slice_get v n ≡ Some (rank_told v origins now line n (slice_index_or used n false))
-        go true d = checked n line e d
+        go true d = by_told n line e (checked n line e d)
         go false d =
             let x = others n line e d in
             let links = or_false (list_any (λ (i : Input). is_made_by origins job i.link) line.inputs) (list_any (λ (g : Gathered). is_made_by origins job g.link) line.gathers) x.unread in

@@ -1,6 +1,6 @@
 -- The ranks of jobs, by links, flags and the ranks of other jobs.
-use Rattle.std.specs.Prelude.{ℕ, Bool, false, ◌==◌, ◌&&◌, ◌||◌, not, List, [], map, filter, zip, Option, None, is_none, is_some, if◌then◌else◌, slice_index_or}
-use Rattle.std.specs.List.{list_any}
+use Rattle.std.specs.Prelude.{ℕ, Bool, false, ◌==◌, ◌&&◌, ◌||◌, not, List, [], map, filter, zip, Option, Some, None, is_none, is_some, if◌then◌else◌, slice_index_or}
+use Rattle.std.specs.List.{list_any, slice_get}
 use Rattle.smk_world.specs.Trees.{Path}
 use Rattle.smk_trigger.specs.declared.reason.Reason.{Reason}
 use Rattle.smk_trigger.specs.declared.reason.State.{State}
@@ -16,7 +16,7 @@ use Rattle.smk_plan_states.specs.declared.ranks.Rank.TheVariants.{Open as AtOpen
 use Rattle.smk_plan_states.specs.declared.rows.Rows.{Rows}
 use Rattle.smk_plan_states.specs.declared.spots.Spot.{Spot}
 use Rattle.smk_plan_states.specs.Ranks.{rank_at, by_rank, is_open_rank, is_dirty_rank, is_clean_rank, is_to_run_rank, rank_while_running, unless_needed_rank}
-use Rattle.smk_plan_states.specs.Rows.{has_any, lent}
+use Rattle.smk_plan_states.specs.Rows.{has_any}
 use Rattle.smk_plan_states.specs.Spots.{maker_at, spot_in, is_ready_spot, is_over_ready}
 
 -- ## Open
@@ -97,13 +97,22 @@ lacks flags = list_any not flags
 abbrev pub is_lacking : Rank × List Bool → Bool
 is_lacking e = is_clean_rank e.0 && lacks e.1
 
+-- the job of the number is Clean, and an output of it isn't whole
+abbrev pub lacking_if : Option Rank → Option (List Bool) → Bool
+lacking_if None flags = false
+lacking_if (Some rank) None = false
+lacking_if (Some rank) (Some flags) = is_clean_rank rank && lacks flags
+
+abbrev pub lacking_at : List Rank → List (List Bool) → ℕ → Bool
+lacking_at ranks outputs n = lacking_if (slice_get ranks n) (slice_get outputs n)
+
 -- ## The passes
 
 -- the rank by the table, where what only jobs that are to run want back doesn't count
 abbrev pub table_rank : List Rank → List Origin → Rows → List (List Reason) → Line → ℕ → Bool → Rank
 table_rank ranks origins rows reasons line number used =
     if opens_by ranks (spot_in origins rows) line then AtOpen
-    else by_rank (dirties_by ranks origins (slice_index_or reasons number []) line) (is_kept_by line.outputs (slice_index_or (lent rows.outputs.now) number []) && not used)
+    else by_rank (dirties_by ranks origins (slice_index_or reasons number []) line) (is_kept_by line.outputs (slice_index_or rows.outputs.now number []) && not used)
 
 -- the same, but for a job whose child runs
 abbrev pub first_rank : List Rank → List Origin → Rows → List (List Reason) → Line → ℕ → Bool → Rank
@@ -113,7 +122,7 @@ first_rank ranks origins rows reasons line number used =
 -- the last rank from the first
 abbrev pub last_rank : List Bool → Rows → Line → ℕ → Bool → Rank → Rank
 last_rank needed rows line number used first =
-    unless_needed_rank (is_needed_by_flags needed line.outputs (slice_index_or (lent rows.outputs.now) number []) && not used) first
+    unless_needed_rank (is_needed_by_flags needed line.outputs (slice_index_or rows.outputs.now number []) && not used) first
 
 -- ## What children read
 

@@ -44,7 +44,7 @@ forced_at at jobs = map (is_forced at.image at.settings at.progress (with_states
 -- What the rows tell of the jobs is so where they are judged: which outputs and which paths of makers are whole there; which jobs have reasons but for the inputs whose
 -- job is Dirty, where that is told; and for each job whose child runs there is the state that it had when it began.
 pub record AreRowsAt (at : Judging) (jobs : Jobs) (rows : Rows) : Type 0 where
-  pub outputs : lent rows.outputs.now ≡ map (whole_outputs at.image) jobs.jobs
+  pub outputs : rows.outputs.now ≡ map (whole_outputs at.image) jobs.jobs
   pub makers : rows.makers.now ≡ map (is_whole_made at.image jobs.jobs) jobs.makers
   pub own : FitOwn rows.own.now (reasons_at at jobs)
   pub running : rows.running.now ≡ began at jobs

@@ -32,7 +32,7 @@ spot_at origins outputs makers link =
 
 -- the same by what is lent
 abbrev pub spot_in : List Origin → Rows → Option ℕ → Option Spot
-spot_in origins rows link = spot_at origins (lent rows.outputs.now) rows.makers.now link
+spot_in origins rows link = spot_at origins rows.outputs.now rows.makers.now link
 
 -- ## What is ready by ranks
 

@@ -1,5 +1,5 @@
 -- A step of one job: what stays of all others.
-use Rattle.std.specs.Prelude.{◌≡◌, ◌<◌, ℕ, suc, Bool, false, true, ◌==◌, ◌||◌, ◌&&◌, not, if◌then◌else◌, ◌++◌, List, [], ◌∷◌, map, length, take, Option, Some, None, slice_index_or}
+use Rattle.std.specs.Prelude.{◌≡◌, ◌⊎◌, ◌<◌, ℕ, suc, Bool, false, true, ◌==◌, ◌||◌, ◌&&◌, not, if◌then◌else◌, ◌++◌, List, [], ◌∷◌, map, length, take, Option, Some, None, is_some, slice_index_or}
 use Rattle.std.specs.List.{list_any, slice_get}
 use Rattle.smk_world.specs.Trees.{Each}
 use Rattle.smk_chain.specs.declared.jobs.Jobs.{Jobs}
@@ -12,14 +12,15 @@ use Rattle.smk_plan_states.specs.declared.lines.Input.{Input}
 use Rattle.smk_plan_states.specs.declared.lines.Line.{Line}
 use Rattle.smk_plan_states.specs.declared.lines.Origin.{Origin}
 use Rattle.smk_plan_states.specs.declared.ranks.Rank.{Rank}
-use Rattle.smk_plan_states.specs.declared.ranks.Rank.TheVariants.{Open as AtOpen}
+use Rattle.smk_plan_states.specs.declared.ranks.Rank.TheVariants.{Open as AtOpen, Dirty as AtDirty}
 use Rattle.smk_plan_states.specs.declared.rows.Rows.{Rows}
 use Rattle.smk_plan_states.specs.declared.spots.Spot.{Spot}
+use Rattle.smk_plan.specs.States.{test_some}
 use Rattle.smk_plan_states.specs.Judged.{Judging}
-use Rattle.smk_plan_states.specs.Rows.{lent, reasons_at, forced_at}
-use Rattle.smk_plan_states.specs.Ranks.{by_rank, rank_while_running, state_by}
-use Rattle.smk_plan_states.specs.Spots.{maker_at, spot_at}
-use Rattle.smk_plan_states.specs.Ranking.{dirties_by, is_kept_by, is_link, opens_by, upstream_paths}
+use Rattle.smk_plan_states.specs.Rows.{has_any, reasons_at, forced_at}
+use Rattle.smk_plan_states.specs.Ranks.{by_rank, is_open_rank, rank_while_running, state_by}
+use Rattle.smk_plan_states.specs.Spots.{maker_at, origin_at, spot_at}
+use Rattle.smk_plan_states.specs.Ranking.{dirties_by, is_kept_by, is_link, is_upstream, opens_by, upstream_paths}
 
 -- What is told of jobs at a moment, by their numbers; what Rows lend.
 pub record Told : Type 0 where
@@ -33,7 +34,7 @@ pub record Told : Type 0 where
 abbrev pub told_by : Rows → List (List Reason) → List Bool → Told
 told_by rows reasons forced =
     record {
-      outputs = lent rows.outputs.now;
+      outputs = rows.outputs.now;
       makers = rows.makers.now;
       reasons = reasons;
       forced = forced;
@@ -121,15 +122,36 @@ pub record IsApart (job : ℕ) (readers watchers : List ℕ) (was used : List Bo
   pub no_watcher : has_number n watchers ≡ false
   pub reading : slice_index_or used n false ≡ slice_index_or was n false
 
--- The ranks have changed at most at the job, and each job that is doubted has the one that it has by them.
+-- the path of the input is a member of a directory
+abbrev pub is_member : List Origin → Input → Bool
+is_member origins i = test_some (λ (o : Origin). is_some o.over) (origin_at origins i.link)
+
+-- the line gathers from nothing, and none of its inputs is a member of a directory
+abbrev pub is_plain : List Origin → Line → Bool
+is_plain origins line = not (has_any line.gathers) && not (list_any (is_member origins) line.inputs)
+
+-- After a step of a job that isn't Open the job of the number, another one, is Dirty by these ranks, its line is told to be plain, and the job of an input of it is Dirty.
+pub record IsStillDirty (origins : List Origin) (plains : List Bool) (job : ℕ) (ranks : List Rank) (n : ℕ) (line : Line) : Type 0 where
+  pub other : (n == job) ≡ false
+  pub shut : test_some is_open_rank (slice_get ranks job) ≡ false
+  pub dirty : slice_get ranks n ≡ Some AtDirty
+  pub plain : slice_index_or plains n false ≡ true
+  pub above : list_any (is_upstream ranks origins) line.inputs ≡ true
+
+-- The rank of the job of the number is that by these ranks; or it is still Dirty.
+abbrev pub IsToldBy : List Origin → Told → List Bool → List Bool → ℕ → List Rank → ℕ → Line → Type 0
+IsToldBy origins rows used plain job ranks n line =
+    (slice_get ranks n ≡ Some (rank_told ranks origins rows line n (slice_index_or used n false))) ⊎ IsStillDirty origins plain job ranks n line
+
+-- The ranks have changed at most at the job, and each job that is doubted has the one that it has by them, or is still Dirty.
 pub record AreAfter
-    (lines : List Line) (origins : List Origin) (rows : Told) (used doubts : List Bool) (job : ℕ) (before ranks : List Rank) : Type 0 where
+    (lines : List Line) (origins : List Origin) (rows : Told) (used doubts plain : List Bool) (job : ℕ) (before ranks : List Rank) : Type 0 where
   pub within : job < length lines
   pub each : length ranks ≡ length before
   pub others : (m : ℕ) → (m == job) ≡ false → slice_get ranks m ≡ slice_get before m
   pub told :
       (n : ℕ) (line : Line) → slice_get lines n ≡ Some line → slice_index_or doubts n false ≡ true →
-      slice_get ranks n ≡ Some (rank_told ranks origins rows line n (slice_index_or used n false))
+      IsToldBy origins rows used plain job ranks n line
 
 -- ## States by ranks
 

@@ -1,19 +1,22 @@
 //! The ranks of the jobs after a step of one of them, where no other rank changes.
 
 ghost use Rattle.std.specs.Prelude.{◌≡◌, ◌<◌, ◌==◌, ◌||◌, ℕ, Bool, List as Items, length, slice_index_or, Some, true, false, IfOk, IfSome};
-ghost use Rattle.std.specs.List.{slice_get};
+ghost use Rattle.std.specs.List.{list_any, slice_get};
 ghost use Rattle.smk_plan_states.specs.declared.lines.Line.{Line as LineValue};
 ghost use Rattle.smk_trigger.specs.declared.reason.Reason.{Reason as ReasonValue};
+ghost use Rattle.smk_plan.specs.States.{test_some};
 ghost use Rattle.smk_plan_states.specs.Rows.{FitOwn};
-ghost use Rattle.smk_plan_states.specs.Stays.{rank_told, told_by, AreAfter, IsApart, has_number};
+ghost use Rattle.smk_plan_states.specs.Ranks.{is_open_rank};
+ghost use Rattle.smk_plan_states.specs.Ranking.{is_upstream};
+ghost use Rattle.smk_plan_states.specs.Stays.{told_by, AreAfter, IsApart, IsStillDirty, IsToldBy, has_number};
 
 use crate::downward::{set_at, unset};
 use crate::lack::Lack;
-use crate::lines::{Line, Origin};
+use crate::lines::{Input, Line, Origin};
 use crate::ranks::Rank;
 use crate::rows::Rows;
 use crate::spots::flag_at;
-use crate::upward::first_rank;
+use crate::upward::{first_rank, is_upstream};
 use smk_base::OutOfMemory;
 use std::alloc::Global;
 
@@ -58,47 +61,93 @@ fn is_rank(ranks: &[Rank], number: usize, rank: Rank) -> bool
     }
 }
 
-// Whether the job of the number, with this line, has the rank that it has by these ranks, where it is doubted.
-fn is_told(
-    line: &Line,
-    number: usize,
-    origins: &[Origin],
-    rows: &Rows<'_>,
-    used: &[bool],
-    doubts: &[bool],
-    ranks: &[Rank],
-) -> Result<bool, Lack>
-    ensures { IfOk result (λ told. told ≡ true → (reasons : Items (Items ReasonValue)) (forced : Items Bool) → FitOwn rows.now.own.now reasons
-        → slice_index_or doubts.now number false ≡ true → slice_get ranks.now number ≡ Some (rank_told ranks.now origins.now (told_by rows.now reasons forced) line.now number (slice_index_or used.now number false))) }
-{
-    if !flag_at(doubts, number) {
-        return Ok(true);
-    }
-    let Some(rank) = first_rank(ranks, origins, rows, line, number, flag_at(used, number)) else {
-        return Err(Lack::Own(number));
-    };
-    Ok(is_rank(ranks, number, rank))
+/// What ranks are told by after a step of one job, besides the rows.
+#[derive(Clone, Copy)]
+pub(crate) struct Step<'s> {
+    pub(crate) origins: &'s [Origin],
+    /// From which jobs the children of others read.
+    pub(crate) used: &'s [bool],
+    /// Which jobs are doubted.
+    pub(crate) doubts: &'s [bool],
+    /// Which lines are plain: they gather from nothing, and none of their inputs is a member of a directory.
+    pub(crate) plain: &'s [bool],
+    /// The number of the job.
+    pub(crate) job: usize,
 }
 
-// Whether each job that is doubted has the rank that it has by these ranks.
-fn are_told(
-    lines: &[Line],
-    origins: &[Origin],
-    rows: &Rows<'_>,
-    used: &[bool],
-    doubts: &[bool],
-    ranks: &[Rank],
-) -> Result<bool, Lack>
-    ensures { IfOk result (λ told. told ≡ true → (reasons : Items (Items ReasonValue)) (forced : Items Bool) → FitOwn rows.now.own.now reasons
-        → (n : ℕ) (line : LineValue) → slice_get lines.now n ≡ Some line → slice_index_or doubts.now n false ≡ true
-        → slice_get ranks.now n ≡ Some (rank_told ranks.now origins.now (told_by rows.now reasons forced) line n (slice_index_or used.now n false))) }
+// Whether the job of an input is Dirty. The last inputs are looked at first: jobs begin in their order, so that the last ones of those that one job joins are Dirty longest.
+fn is_any_upstream(ranks: &[Rank], origins: &[Origin], inputs: &[Input]) -> bool
+    ensures { result ≡ true → list_any (is_upstream ranks.now origins.now) inputs.now ≡ true }
 {
-    for (number, line) in lines.iter().enumerate() {
-        if !is_told(line, number, origins, rows, used, doubts, ranks)? {
-            return Ok(false);
+    for number in (0..inputs.len()).rev() {
+        if is_upstream(ranks, origins, &inputs[number]) {
+            return true;
         }
     }
-    Ok(true)
+    false
+}
+
+// Whether the job of the number isn't Open, so far as there is one.
+fn is_shut(ranks: &[Rank], number: usize) -> bool
+    ensures { result ≡ true → test_some is_open_rank (slice_get ranks.now number) ≡ false }
+{
+    match ranks.get(number) {
+        None => true,
+        Some(Rank::Open) => false,
+        Some(_) => true,
+    }
+}
+
+impl Step<'_> {
+    // Whether the job of the number, with this line, is seen to be still Dirty.
+    fn is_still_dirty(&self, ranks: &[Rank], number: usize, line: &Line) -> bool
+        ensures { result ≡ true → IsStillDirty self.now.origins.now self.now.plain.now self.now.job ranks.now number line.now }
+    {
+        number != self.job
+            && is_shut(ranks, self.job)
+            && is_rank(ranks, number, Rank::Dirty)
+            && flag_at(self.plain, number)
+            && is_any_upstream(ranks, self.origins, line.inputs.as_slice())
+    }
+
+    // Whether the job of the number, with this line, has the rank that it has by these ranks, where it is doubted.
+    fn is_told(
+        &self,
+        rows: &Rows<'_>,
+        ranks: &[Rank],
+        number: usize,
+        line: &Line,
+    ) -> Result<bool, Lack>
+        ensures { IfOk result (λ told. told ≡ true → (reasons : Items (Items ReasonValue)) (forced : Items Bool) → FitOwn rows.now.own.now reasons
+            → slice_index_or self.now.doubts.now number false ≡ true
+            → IsToldBy self.now.origins.now (told_by rows.now reasons forced) self.now.used.now self.now.plain.now self.now.job ranks.now number line.now) }
+    {
+        if !flag_at(self.doubts, number) {
+            return Ok(true);
+        }
+        if self.is_still_dirty(ranks, number, line) {
+            return Ok(true);
+        }
+        let used = flag_at(self.used, number);
+        let Some(rank) = first_rank(ranks, self.origins, rows, line, number, used) else {
+            return Err(Lack::Own(number));
+        };
+        Ok(is_rank(ranks, number, rank))
+    }
+
+    // Whether each job that is doubted has the rank that it has by these ranks.
+    fn are_told(&self, lines: &[Line], rows: &Rows<'_>, ranks: &[Rank]) -> Result<bool, Lack>
+        ensures { IfOk result (λ told. told ≡ true → (reasons : Items (Items ReasonValue)) (forced : Items Bool) → FitOwn rows.now.own.now reasons
+            → (n : ℕ) (line : LineValue) → slice_get lines.now n ≡ Some line → slice_index_or self.now.doubts.now n false ≡ true
+            → IsToldBy self.now.origins.now (told_by rows.now reasons forced) self.now.used.now self.now.plain.now self.now.job ranks.now n line) }
+    {
+        for (number, line) in lines.iter().enumerate() {
+            if !self.is_told(rows, ranks, number, line)? {
+                return Ok(false);
+            }
+        }
+        Ok(true)
+    }
 }
 
 /// What is doubted after a step of the job: itself, its readers, those that watch it, and each of which a child reads that didn't, or no longer.
@@ -143,25 +192,24 @@ fn with_rank(
 pub(crate) fn ranks_after(
     alloc: Global,
     lines: &[Line],
-    origins: &[Origin],
     rows: &Rows<'_>,
-    used: &[bool],
-    doubts: &[bool],
-    job: usize,
+    step: &Step<'_>,
     before: &[Rank],
 ) -> Result<Option<Vec<Rank>>, Lack>
-    ensures within { IfOk result (λ found. IfSome found (λ ranks. job < length lines.now)) }
+    ensures within { IfOk result (λ found. IfSome found (λ ranks. step.now.job < length lines.now)) }
     ensures after { IfOk result (λ found. IfSome found (λ ranks. (reasons : Items (Items ReasonValue)) (forced : Items Bool) → FitOwn rows.now.own.now reasons
-        → AreAfter lines.now origins.now (told_by rows.now reasons forced) used.now doubts.now job before.now ranks.items)) }
+        → AreAfter lines.now step.now.origins.now (told_by rows.now reasons forced) step.now.used.now step.now.doubts.now step.now.plain.now step.now.job before.now ranks.items)) }
 {
+    let job = step.job;
     let Some(line) = lines.get(job) else {
         return Ok(None);
     };
-    let Some(rank) = first_rank(before, origins, rows, line, job, flag_at(used, job)) else {
+    let used = flag_at(step.used, job);
+    let Some(rank) = first_rank(before, step.origins, rows, line, job, used) else {
         return Err(Lack::Own(job));
     };
     let ranks = with_rank(alloc, before, job, rank)?;
-    if are_told(lines, origins, rows, used, doubts, ranks.as_slice())? {
+    if step.are_told(lines, rows, ranks.as_slice())? {
         return Ok(Some(ranks));
     }
     Ok(None)

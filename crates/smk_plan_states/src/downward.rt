@@ -8,8 +8,7 @@ ghost use Rattle.smk_plan_states.specs.Judged.{Judging};
 ghost use Rattle.smk_plan_states.specs.First.{first_states};
 ghost use Rattle.smk_plan_states.specs.Moment.{IsMoment};
 ghost use Rattle.smk_plan_states.specs.Ranks.{rank_of};
-ghost use Rattle.smk_plan_states.specs.Ranking.{has_link, is_link, is_needed_at, is_needed_by_flags, is_lacking, lacks, last_rank};
-ghost use Rattle.smk_plan_states.specs.Rows.{lent};
+ghost use Rattle.smk_plan_states.specs.Ranking.{has_link, is_link, is_needed_at, is_needed_by_flags, is_lacking, lacking_at, lacks, last_rank};
 
 use crate::lines::{Input, Line, Origin, Output};
 use crate::ranks::{Rank, is_clean_rank, is_to_run, unless_needed};
@@ -118,8 +117,8 @@ pub(crate) fn lacks(flags: &[bool]) -> bool
 }
 
 /// Whether a job is Clean of which an output isn't whole.
-pub(crate) fn any_lacking(ranks: &[Rank], outputs: &[&List<bool>]) -> bool
-    ensures { result ≡ list_any is_lacking (zip ranks.now (lent outputs.now)) }
+pub(crate) fn any_lacking(ranks: &[Rank], outputs: &[List<bool>]) -> bool
+    ensures { result ≡ list_any is_lacking (zip ranks.now outputs.now) }
 {
     for (i, rank) in ranks.iter().enumerate() {
         let Some(flags) = outputs.get(i) else {
@@ -130,6 +129,19 @@ pub(crate) fn any_lacking(ranks: &[Rank], outputs: &[&List<bool>]) -> bool
         }
     }
     false
+}
+
+/// Whether the job of the number is Clean, and an output of it isn't whole.
+pub(crate) fn is_lacking_at(ranks: &[Rank], outputs: &[List<bool>], number: usize) -> bool
+    ensures { result ≡ lacking_at ranks.now outputs.now number }
+{
+    let Some(rank) = ranks.get(number) else {
+        return false;
+    };
+    let Some(flags) = outputs.get(number) else {
+        return false;
+    };
+    is_clean_rank(*rank) && lacks(flags.as_slice())
 }
 
 // The ranks from the last job to the first, by what those behind are to read.
@@ -182,7 +194,7 @@ pub(crate) fn last_ranks(
     ensures ranks { IfOk result (λ ranks. (at : Judging) (jobs : JobsValue) (states : Items StateValue)
         → IsMoment at jobs states lines.now origins.now rows.now used.now
         → first.items ≡ map rank_of (first_states at jobs states) → ranks.items ≡ map rank_of states) }
-    ensures whole { IfOk result (λ ranks. list_any is_lacking (zip first.items (lent rows.now.outputs.now)) ≡ false → ranks.items ≡ first.items) }
+    ensures whole { IfOk result (λ ranks. list_any is_lacking (zip first.items rows.now.outputs.now) ≡ false → ranks.items ≡ first.items) }
 {
     if any_lacking(first.as_slice(), rows.outputs) {
         return needed_ranks(alloc, lines, origins, rows, used, first);

@@ -4,7 +4,6 @@ ghost use Rattle.std.specs.Prelude.{◌≡◌, ◌<◌, ◌&&◌, ◌||◌, ℕ,
 ghost use Rattle.std.specs.List.{list_any, zip};
 ghost use Rattle.smk_trigger.specs.declared.reason.State.{State as StateValue};
 ghost use Rattle.smk_plan_states.specs.Ranks.{is_clean_rank, rank_of};
-ghost use Rattle.smk_plan_states.specs.Rows.{lent};
 ghost use Rattle.smk_plan_states.specs.Ranking.{is_held_by, is_kept_by, is_lent_lacking, is_needed_by_flags, is_needed_in};
 ghost use Rattle.smk_chain.specs.declared.jobs.Jobs.{Jobs as JobsValue};
 ghost use Rattle.smk_plan_states.specs.Judged.{Judging, any_held_back};
@@ -73,9 +72,9 @@ fn is_any_held(
     ranks: &[Rank],
     running: &[Option<State>],
     used: &[bool],
-    outputs: &[&List<bool>],
+    outputs: &[List<bool>],
 ) -> bool
-    ensures { result ≡ list_any (is_held_by needed.now) (zip lines.now (zip ranks.now (zip running.now (zip used.now (lent outputs.now))))) }
+    ensures { result ≡ list_any (is_held_by needed.now) (zip lines.now (zip ranks.now (zip running.now (zip used.now outputs.now)))) }
 {
     for (i, line) in lines.iter().enumerate() {
         let Some(rank) = ranks.get(i) else {
@@ -105,8 +104,8 @@ fn is_lent_lacking(rank: Rank, used: bool, flags: &[bool]) -> bool
 }
 
 // Whether one of these is so, which may be held back.
-fn may_be_held(ranks: &[Rank], used: &[bool], outputs: &[&List<bool>]) -> bool
-    ensures { result ≡ list_any is_lent_lacking (zip ranks.now (zip used.now (lent outputs.now))) }
+fn may_be_held(ranks: &[Rank], used: &[bool], outputs: &[List<bool>]) -> bool
+    ensures { result ≡ list_any is_lent_lacking (zip ranks.now (zip used.now outputs.now)) }
 {
     for (i, rank) in ranks.iter().enumerate() {
         let Some(used) = used.get(i) else {

@@ -14,6 +14,7 @@ mod lines;
 mod making;
 mod opening;
 mod own;
+mod plain;
 mod ranks;
 mod ready;
 mod reasons;

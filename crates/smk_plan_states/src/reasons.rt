@@ -4,7 +4,6 @@ ghost use Rattle.std.specs.Prelude.{◌≡◌, ◌++◌, map, option_map, slice_
 ghost use Rattle.smk_trigger.specs.Reasons.{when};
 ghost use Rattle.smk_plan_states.specs.Ranks.{plain_state};
 ghost use Rattle.smk_plan_states.specs.Ranking.{is_upstream, upstream_paths};
-ghost use Rattle.smk_plan_states.specs.Rows.{lent};
 ghost use Rattle.smk_plan_states.specs.Stays.{alone_in, state_told, state_with, states_told, told_by};
 
 use crate::lines::{Input, Line, Origin};
@@ -190,11 +189,11 @@ fn state_told(
     number: usize,
     origins: &[Origin],
     rows: &Rows<'_>,
-    reasons: &[&List<Reason>],
+    reasons: &[List<Reason>],
     forced: &[bool],
     ranks: &[Rank],
 ) -> Result<State, OutOfMemory>
-    ensures { IfOk result (λ state. state ≡ state_told origins.now (told_by rows.now (lent reasons.now) forced.now) ranks.now number line.now) }
+    ensures { IfOk result (λ state. state ≡ state_told origins.now (told_by rows.now reasons.now forced.now) ranks.now number line.now) }
 {
     state_with(
         alloc,
@@ -214,11 +213,11 @@ pub(crate) fn states_of(
     lines: &[Line],
     origins: &[Origin],
     rows: &Rows<'_>,
-    reasons: &[&List<Reason>],
+    reasons: &[List<Reason>],
     forced: &[bool],
     ranks: &[Rank],
 ) -> Result<List<State>, OutOfMemory>
-    ensures { IfOk result (λ states. states ≡ states_told lines.now origins.now (told_by rows.now (lent reasons.now) forced.now) ranks.now) }
+    ensures { IfOk result (λ states. states ≡ states_told lines.now origins.now (told_by rows.now reasons.now forced.now) ranks.now) }
 {
     let mut found = List::new(alloc);
     for (number, line) in lines.iter().enumerate() {

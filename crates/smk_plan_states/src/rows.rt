@@ -15,7 +15,7 @@ pub enum Own {
 #[derive(Clone, Copy)]
 pub struct Rows<'r> {
     /// For each job, for each of its outputs in order: whether it is whole.
-    pub outputs: &'r [&'r List<bool>],
+    pub outputs: &'r [List<bool>],
     /// For each maker: whether its path is whole, as an output of the job that makes it or as a file of its directory. False for a source.
     pub makers: &'r [bool],
     /// For each job whether it has reasons of its own, Forced among them.

@@ -3,7 +3,6 @@
 ghost use Rattle.std.specs.Prelude.{◌≡◌, slice_index_or, false, None, option_map, []};
 ghost use Rattle.std.specs.List.{slice_get};
 ghost use Rattle.std.specs.Option.{option_and_then};
-ghost use Rattle.smk_plan_states.specs.Rows.{lent};
 ghost use Rattle.smk_plan_states.specs.Spots.{origin_at, maker_at, over_flag, spot_of, spot_in};
 
 use crate::lines::Origin;
@@ -30,8 +29,8 @@ pub(crate) fn flag_at(flags: &[bool], number: usize) -> bool
 }
 
 /// The row of the job with this number; nothing where there is none.
-pub(crate) fn row_at<'r, T>(rows: &[&'r List<T>], number: usize) -> &'r [T]
-    ensures { result.now ≡ slice_index_or (lent rows.now) number [] }
+pub(crate) fn row_at<T>(rows: &[List<T>], number: usize) -> &[T]
+    ensures { result.now ≡ slice_index_or rows.now number [] }
 {
     match rows.get(number) {
         Some(row) => row.as_slice(),
@@ -50,7 +49,7 @@ pub(crate) fn began_at(running: &[Option<State>], number: usize) -> Option<&Stat
 }
 
 /// What makes the path of the link.
-fn origin_at(origins: &[Origin], link: Option<usize>) -> Option<Origin>
+pub(crate) fn origin_at(origins: &[Origin], link: Option<usize>) -> Option<Origin>
     ensures { result ≡ origin_at origins.now link }
 {
     match link {
@@ -70,11 +69,11 @@ pub(crate) fn maker_at(origins: &[Origin], link: Option<usize>) -> Option<u32>
 }
 
 // The flags of the outputs of the job with this number.
-fn flags_of<'r>(outputs: &[&'r List<bool>], number: Option<u32>) -> Option<&'r List<bool>>
-    ensures { option_map (λ flags. flags.now) result ≡ option_and_then (slice_get (lent outputs.now)) number }
+fn flags_of(outputs: &[List<bool>], number: Option<u32>) -> Option<&List<bool>>
+    ensures { option_map (λ flags. flags.now) result ≡ option_and_then (slice_get outputs.now) number }
 {
     match number {
-        Some(number) => outputs.get(number as usize).copied(),
+        Some(number) => outputs.get(number as usize),
         None => None,
     }
 }
@@ -90,8 +89,8 @@ fn flag_of(flags: Option<&List<bool>>, place: usize) -> Option<bool>
 }
 
 // Whether the directory over the path is whole.
-fn over_flag(outputs: &[&List<bool>], origin: Origin) -> Option<bool>
-    ensures { result ≡ over_flag (lent outputs.now) origin }
+fn over_flag(outputs: &[List<bool>], origin: Origin) -> Option<bool>
+    ensures { result ≡ over_flag outputs.now origin }
 {
     match origin.over {
         Some(place) => flag_of(flags_of(outputs, origin.job), place),
@@ -99,8 +98,8 @@ fn over_flag(outputs: &[&List<bool>], origin: Origin) -> Option<bool>
     }
 }
 
-fn spot_of(outputs: &[&List<bool>], whole: bool, origin: Origin) -> Spot
-    ensures { result ≡ spot_of (lent outputs.now) whole origin }
+fn spot_of(outputs: &[List<bool>], whole: bool, origin: Origin) -> Spot
+    ensures { result ≡ spot_of outputs.now whole origin }
 {
     Spot {
         job: origin.job,

@@ -11,14 +11,15 @@ ghost use Rattle.smk_plan_states.specs.Moment.{IsMoment};
 ghost use Rattle.smk_plan_states.specs.Ranks.{rank_of};
 ghost use Rattle.smk_plan_states.specs.Ranking.{is_lacking, is_read_by_child};
 ghost use Rattle.smk_trigger.specs.declared.reason.Reason.{Reason as ReasonValue};
-ghost use Rattle.smk_plan_states.specs.Rows.{FitOwn, lent};
+ghost use Rattle.smk_plan_states.specs.Rows.{FitOwn};
 ghost use Rattle.smk_plan_states.specs.Stays.{AreEarlier, AreRowsBut, Told, has_number, reads_of, told_by};
 ghost use Rattle.smk_plan_states.specs.Standing.{HasGone, IsStanding};
 
-use crate::after::{doubts_of, ranks_after};
-use crate::downward::{any_lacking, last_ranks};
+use crate::after::{Step, doubts_of, ranks_after};
+use crate::downward::{any_lacking, is_lacking_at, last_ranks};
 use crate::lack::Lack;
 use crate::lines::{Line, Origin};
+use crate::plain::plain_lines;
 use crate::ranks::Rank;
 use crate::rows::Rows;
 use crate::upward::first_ranks;
@@ -35,6 +36,8 @@ pub struct Ranking {
     pub(crate) used: Vec<bool>,
     // A job that is Clean by the first pass may lack an output.
     pub(crate) lacking: bool,
+    // Which lines are plain.
+    pub(crate) plain: Vec<bool>,
 }
 
 impl Ranking {
@@ -74,11 +77,13 @@ pub(crate) fn rank_all(
     let lacking = any_lacking(first.as_slice(), rows.outputs);
     let again = Vec::from_slice(alloc, first.as_slice())?;
     let last = last_ranks(alloc, lines, origins, rows, used.as_slice(), again)?;
+    let plain = plain_lines(alloc, lines, origins)?;
     Ok(Ranking {
         first,
         last,
         used,
         lacking,
+        plain,
     })
 }
 
@@ -99,26 +104,25 @@ fn is_for_each(ranks: &[Rank], lines: &[Line]) -> bool
     ranks.len() == lines.len()
 }
 
-// The ranks after the step of the job, where none of the first pass changes but maybe that of the job, and no job that is Clean lacks an output.
+// The ranks after the step of the job, where none of the first pass changes but maybe that of the job, and that isn't Clean with an output that isn't whole: of no other job
+// is that so, if it wasn't before the step.
 fn go_on(
     alloc: Global,
     lines: &[Line],
-    origins: &[Origin],
     rows: &Rows<'_>,
-    used: &[bool],
-    doubts: &[bool],
-    job: usize,
+    step: &Step<'_>,
     ranks: &[Rank],
 ) -> Result<Option<Vec<Rank>>, Lack>
-    ensures { IfOk result (λ found. IfSome found (λ now. HasGone lines.now origins.now rows.now used.now doubts.now job ranks.now now.items)) }
+    ensures { IfOk result (λ found. IfSome found (λ now.
+        HasGone lines.now step.now.origins.now rows.now step.now.used.now step.now.doubts.now step.now.plain.now step.now.job ranks.now now.items)) }
 {
-    let Some(first) = ranks_after(alloc, lines, origins, rows, used, doubts, job, ranks)? else {
+    let Some(first) = ranks_after(alloc, lines, rows, step, ranks)? else {
         return Ok(None);
     };
     if !is_for_each(first.as_slice(), lines) {
         return Ok(None);
     }
-    if any_lacking(first.as_slice(), rows.outputs) {
+    if is_lacking_at(first.as_slice(), rows.outputs, step.job) {
         return Ok(None);
     }
     Ok(Some(first))
@@ -156,24 +160,24 @@ pub(crate) fn rank_after(
         ranking.used.as_slice(),
         used.as_slice(),
     )?;
-    match go_on(
-        alloc,
-        lines,
+    let step = Step {
         origins,
-        rows,
-        used.as_slice(),
-        doubts.as_slice(),
-        last.job,
-        ranking.first.as_slice(),
-    )? {
+        used: used.as_slice(),
+        doubts: doubts.as_slice(),
+        plain: ranking.plain.as_slice(),
+        job: last.job,
+    };
+    match go_on(alloc, lines, rows, &step, ranking.first.as_slice())? {
         None => Ok(None),
         Some(first) => {
             let again = Vec::from_slice(alloc, first.as_slice())?;
+            let plain = Vec::from_slice(alloc, ranking.plain.as_slice())?;
             Ok(Some(Ranking {
                 first,
                 last: again,
                 used,
                 lacking: false,
+                plain,
             }))
         }
     }

@@ -8,7 +8,7 @@ ghost use Rattle.smk_trigger.specs.declared.reason.Reason.{Reason as ReasonValue
 ghost use Rattle.smk_trigger.specs.declared.reason.State.{State as StateValue};
 ghost use Rattle.smk_plan_states.specs.Judged.{Judging, AreStates, any_held_back, began, new_directories, targets_ready, with_states};
 ghost use Rattle.smk_plan_states.specs.Ranks.{rank_of};
-ghost use Rattle.smk_plan_states.specs.Rows.{AreRowsAt, FitOwn, lent};
+ghost use Rattle.smk_plan_states.specs.Rows.{AreRowsAt, FitOwn};
 ghost use Rattle.smk_plan_states.specs.Served.{AreServed};
 ghost use Rattle.smk_plan_states.specs.Standing.{FollowsBy, StandsBy, states_by};
 ghost use Rattle.std.specs.List.{slice_get};
@@ -192,11 +192,11 @@ impl Table {
         &self,
         alloc: Global,
         rows: &Rows<'_>,
-        reasons: &[&List<Reason>],
+        reasons: &[List<Reason>],
         forced: &[bool],
         ranking: &Ranking,
     ) -> Result<List<State>, OutOfMemory>
-        ensures { IfOk result (λ states. states ≡ states_by self.now (told_by rows.now (lent reasons.now) forced.now) ranking.now) }
+        ensures { IfOk result (λ states. states ≡ states_by self.now (told_by rows.now reasons.now forced.now) ranking.now) }
     {
         let states = states_of(
             alloc,
@@ -303,6 +303,9 @@ impl Table {
         ensures { IfOk result (λ held. (at : Judging) (jobs : JobsValue) (states : Items StateValue) → IsTableAt at jobs self.now → AreRowsAt at jobs rows.now
             → StandsBy self.now (told_at at jobs rows.now) ranking.now → AreStates at jobs states → ranking.now.last.items ≡ map rank_of states → held ≡ any_held_back at jobs states) }
     {
+        if !ranking.lacking {
+            return Ok(false);
+        }
         let lines = self.lines.as_slice();
         let origins = self.origins.as_slice();
         let held = any_held(alloc, lines, origins, rows, ranking.used(), ranking.ranks())?;

@@ -11,23 +11,22 @@ use Rattle.smk_plan_states.specs.Judged.{Judging}
 use Rattle.smk_plan_states.specs.Rows.{AreRowsAt, FitOwn, lent, own_of, reasons_at}
 use Rattle.smk_plan_states.proofs.OwnReasons.{fits_own}
 use Rattle.smk_plan_table.specs.declared.judging.Basis.{Basis}
-use Rattle.smk_plan_table.specs.declared.planning.Lent.{Lent}
 use Rattle.smk_plan_table.specs.declared.suspects.Suspect.{Suspect}
-use Rattle.smk_plan_table.specs.Bases.{IsBasisAt, IsLentOf}
+use Rattle.smk_plan_table.specs.Bases.{IsBasisAt}
 use Rattle.smk_plan_table.specs.Parts.{IsSuspectOf}
 use Rattle.smk_plan_table.specs.Plans.{IsGiven}
 
 module _
-    (at : Judging) (jobs : Jobs) (store : List Known) (seen : List Sight) (basis : Basis) (l : Lent) (rows : Rows) (so : IsBasisAt at jobs store seen basis)
-    (is : IsLentOf l basis) (outputs : rows.outputs.now ≡ l.outputs.items) (makers : rows.makers.now ≡ basis.wholes.makers) (own : rows.own.now ≡ l.own.items)
+    (at : Judging) (jobs : Jobs) (store : List Known) (seen : List Sight) (basis : Basis) (rows : Rows) (so : IsBasisAt at jobs store seen basis)
+    (outputs : rows.outputs.now ≡ basis.wholes.outputs) (makers : rows.makers.now ≡ basis.wholes.makers) (own : rows.own.now ≡ map own_of basis.judged.reasons)
     (running : rows.running.now ≡ basis.judged.running) where
   pub rows_right : AreRowsAt at jobs rows
   rows_right =
       record {
-        outputs = ap lent outputs ∙ is.outputs ∙ ap (λ (w : Wholes). w.outputs) so.wholes;
+        outputs = outputs ∙ ap (λ (w : Wholes). w.outputs) so.wholes;
         makers = makers ∙ ap (λ (w : Wholes). w.makers) so.wholes;
         own =
-            subst (λ (flags : List Own). FitOwn flags (reasons_at at jobs)) (sym (own ∙ is.own ∙ ap (map own_of) so.judged.reasons)) (fits_own (reasons_at at jobs));
+            subst (λ (flags : List Own). FitOwn flags (reasons_at at jobs)) (sym (own ∙ ap (map own_of) so.judged.reasons)) (fits_own (reasons_at at jobs));
         running = running ∙ so.judged.running;
       }
 

@@ -8,7 +8,6 @@ mod current;
 mod doubting;
 mod guarding;
 mod judging;
-mod lending;
 mod listings;
 mod marking;
 mod outputs;

@@ -5,17 +5,16 @@ ghost use Rattle.smk_world.specs.Trees.{Path};
 ghost use Rattle.smk_store.specs.Images.{Image};
 ghost use Rattle.smk_chain.specs.declared.jobs.Jobs.{Jobs as JobsValue};
 ghost use Rattle.smk_plan_states.specs.Judged.{AreStates};
-ghost use Rattle.smk_plan_states.specs.Rows.{AreRowsAt, lent};
+ghost use Rattle.smk_plan_states.specs.Rows.{AreRowsAt, own_of};
 ghost use Rattle.smk_trigger.specs.declared.reason.State.{State as StateValue};
 ghost use Rattle.smk_plan_states.specs.Ranks.{rank_of};
 ghost use Rattle.smk_plan_states.specs.Stays.{told_by};
 ghost use Rattle.smk_plan_states.specs.Tables.{IsTableAt, IsTableOf};
-ghost use Rattle.smk_plan_table.specs.Bases.{IsBasisAt, IsLentOf};
+ghost use Rattle.smk_plan_table.specs.Bases.{IsBasisAt};
 ghost use Rattle.smk_plan_table.specs.Plans.{Agree, HasMade, HasMadeAt, IsGiven, IsRefused, IsRefusedAt, WhereAgreed, listings_known, targets_current, plan_by};
 
 use crate::current::current;
 use crate::judging::{Basis, judge};
-use crate::lending::references;
 use crate::listings::listings_of;
 use crate::refusing::first_refusal;
 use crate::suspects::Suspect;
@@ -126,38 +125,16 @@ pub fn plan_now<T: Told>(
     }
 }
 
-// What is lent of a basis, job by job.
-#[derive(Drop)]
-struct Lent<'b> {
-    outputs: Vec<&'b List<bool>>,
-    reasons: Vec<&'b List<Reason>>,
-    own: Vec<Own>,
-}
-
-// What the basis lends.
-fn lend<'b>(alloc: Global, basis: &'b Basis) -> Result<Lent<'b>, OutOfMemory>
-    ensures { IfOk result (λ made. IsLentOf made basis.now) }
-{
-    let outputs = references(alloc, basis.wholes.outputs.as_slice())?;
-    let reasons = references(alloc, basis.judged.reasons.as_slice())?;
-    let own = own_flags(alloc, basis.judged.reasons.as_slice())?;
-    Ok(Lent {
-        outputs,
-        reasons,
-        own,
-    })
-}
-
 // The plan with the states of the jobs.
 fn spell(
     alloc: Global,
     table: &Table,
     rows: &Rows<'_>,
-    reasons: &[&List<Reason>],
+    reasons: &[List<Reason>],
     forced: &[bool],
     made: Ranked,
 ) -> Result<Plan, PlanFault>
-    ensures ok { IfOk result (λ plan. plan ≡ plan_by table.now (told_by rows.now (lent reasons.now) forced.now) made) }
+    ensures ok { IfOk result (λ plan. plan ≡ plan_by table.now (told_by rows.now reasons.now forced.now) made) }
     ensures each { IfOk result (λ plan. (jobs : JobsValue) (targets : Items Path) → IsTableOf jobs targets table.now → length plan.states ≡ length jobs.jobs) }
     ensures err { IfErr result (λ fault. fault ≡ PlanFault.OutOfMemory) }
 {
@@ -171,17 +148,17 @@ fn spell(
     }
 }
 
-// The plan of jobs by what is lent of them, where none runs.
-fn plan_lent<T: Told>(
+// The plan of jobs, where none runs, and these have reasons of their own.
+fn plan_with<T: Told>(
     alloc: Global,
     jobs: &Jobs,
     told: &T,
     settings: &Settings,
     basis: &Basis,
-    lent: &Lent<'_>,
+    own: &[Own],
 ) -> Result<Plan, PlanFault>
     requires table { IsTableOf jobs.now settings.now.targets basis.now.table }
-    requires lent { IsLentOf lent.now basis.now }
+    requires own { own.now ≡ map own_of basis.now.judged.reasons }
     ensures each { IfOk result (λ made. length made.states ≡ length jobs.now.jobs) }
     ensures targets { IfOk result (λ made. length made.current ≡ length settings.now.targets) }
     ensures made { IfOk result (λ made. WhereAgreed jobs.now (T.known told.now) (T.seen told.now) settings.now
@@ -190,9 +167,9 @@ fn plan_lent<T: Told>(
         (λ at. IsBasisAt at jobs.now (T.known told.now) (T.seen told.now) basis.now → IsRefusedAt at jobs.now fault)) }
 {
     let rows = Rows {
-        outputs: lent.outputs.as_slice(),
+        outputs: basis.wholes.outputs.as_slice(),
         makers: basis.wholes.makers.as_slice(),
-        own: lent.own.as_slice(),
+        own,
         running: basis.judged.running.as_slice(),
     };
     match basis.table.rank(alloc, &rows, None) {
@@ -213,7 +190,7 @@ fn plan_lent<T: Told>(
                 alloc,
                 &basis.table,
                 &rows,
-                lent.reasons.as_slice(),
+                basis.judged.reasons.as_slice(),
                 basis.judged.forced.as_slice(),
                 made,
             ),
@@ -237,9 +214,9 @@ fn plan_of<T: Told>(
     ensures refused { IfErr result (λ fault. fault ≢ PlanFault.OutOfMemory → WhereAgreed jobs.now (T.known told.now) (T.seen told.now) settings.now
         (λ at. IsBasisAt at jobs.now (T.known told.now) (T.seen told.now) basis.now → IsRefusedAt at jobs.now fault)) }
 {
-    match lend(alloc, basis) {
+    match own_flags(alloc, basis.judged.reasons.as_slice()) {
         Err(_) => Err(PlanFault::OutOfMemory),
-        Ok(lent) => plan_lent(alloc, jobs, told, settings, basis, &lent),
+        Ok(own) => plan_with(alloc, jobs, told, settings, basis, own.as_slice()),
     }
 }
 

@@ -1,22 +1,21 @@
-use Rattle.std.proofs.Common.{◌≡◌, ◌∙◌, refl, sym, ap}
-use Rattle.std.specs.List.{list_all, list_any}
-use Rattle.smk_chain.specs.declared.jobs.Jobs.{Jobs}
-use Rattle.smk_drive_pick.specs.Spending.{has_temps, is_done_with}
+use Rattle.std.proofs.Common.{◌∙◌, refl, sym, ap}
+use Rattle.std.proofs.lemmas.Bool.{not-true}
+use Rattle.std.specs.List.{list_all}
+use Rattle.smk_drive_pick.specs.Spending.{is_done_with}
 use Rattle.smk_drive_pick.proofs.ByRank.{done_by}
 use Rattle.smk_drive_pick.proofs.Freed.{whole_now}
 use Rattle.smk_drive_pick.proofs.Spent.{none_undone, none_temporary, none_while_held}
 use Rattle.smk_drive_pick.proofs.spending.spent_paths.Goals as goal
 
-pub returns-then-not-any_temporary : goal.returns-then-not-any_temporary
-returns-then-not-any_temporary c =
-    let jobs : c.as_slice.result.now ≡ c.args.live.now.base.jobs.jobs = c.as_slice.ensures ∙ ap (λ (j : Jobs). j.jobs) c.jobs.ensures in
+pub returns-then-not-limits : goal.returns-then-not-limits
+returns-then-not-limits c =
     record {
       wholes = whole_now c.args.live.now;
       whole = λ sorted. refl;
       spent = λ at judged back.
           c.new.ensures
           ∙ sym (none_temporary at c.args.live.now (whole_now c.args.live.now) judged
-          (sym (ap (list_any has_temps) jobs) ∙ sym c.any_temporary.ensures ∙ c.if-not-any_temporary.true));
+          (sym (c.limits-limits.ensures.now c.requires).temporary ∙ not-true c.limits-limits.result.temporary c.if-not-limits.true));
     }
 
 pub returns-then-holds_back : goal.returns-then-holds_back

@@ -8,14 +8,14 @@ pub returns-in-Ok-tell_by-clause-ranked : goal.returns-in-Ok-tell_by-clause-rank
 returns-in-Ok-tell_by-clause-ranked g c = λ follows given.
     c.in-Ok-tell_by.ensures.ranked follows
     (λ served.
-    subst (λ (own : List Own). AreLentNow c.args.settings.now c.args.base.now c.args.lent.now c.args.makers.now own c.args.suspects.now)
+    subst (λ (own : List Own). AreLentNow c.args.settings.now c.args.base.now c.args.outputs.now c.args.makers.now own c.args.suspects.now)
     (sym c.as_slice-in-loop-turn.ensures.value) (given served))
 
 pub returns-in-Ok-tell_by-clause-now : goal.returns-in-Ok-tell_by-clause-now
 returns-in-Ok-tell_by-clause-now g c = λ follows given.
     c.in-Ok-tell_by.ensures.now follows
     (λ served.
-    subst (λ (own : List Own). AreLentNow c.args.settings.now c.args.base.now c.args.lent.now c.args.makers.now own c.args.suspects.now)
+    subst (λ (own : List Own). AreLentNow c.args.settings.now c.args.base.now c.args.outputs.now c.args.makers.now own c.args.suspects.now)
     (sym c.as_slice-in-loop-turn.ensures.value) (given served))
 
 pub returns-then-is_err-clause-fits : goal.returns-then-is_err-clause-fits

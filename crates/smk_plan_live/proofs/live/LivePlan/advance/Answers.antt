@@ -10,7 +10,7 @@ use Rattle.smk_plan_live.proofs.live.LivePlan.advance.Goals as goal
 pub settle-requires : goal.settle-requires
 settle-requires g c =
     let r = c.self.inside in
-    let p : LivePlan = seen_as r.base r.settings r.ranking r.current r.known r.held r.table r.flags r.readers r.commanded in
+    let p : LivePlan = seen_as r.base r.settings r.ranking r.current r.known r.held r.table r.flags r.readers r.commanded r.limits in
     let n = c.args.number in
     let rows = c.args.rows in
     let within = subst (λ (q : LivePlan). n < length q.base.jobs.jobs) (sym c.self.view_is) c.requires.within in
@@ -31,7 +31,7 @@ settle-requires g c =
 pub returns-in-Err-clause-err : goal.returns-in-Err-clause-err
 returns-in-Err-clause-err g c =
     let r = c.self.inside in
-    let p : LivePlan = seen_as r.base r.settings r.ranking r.current r.known r.held r.table r.flags r.readers r.commanded in
+    let p : LivePlan = seen_as r.base r.settings r.ranking r.current r.known r.held r.table r.flags r.readers r.commanded r.limits in
     let n = c.args.number in
     let t = c.turn-before in
     let f = c.fill-earlier in
@@ -47,7 +47,7 @@ returns-in-Err-clause-err g c =
 pub returns-in-Err-clause-live : goal.returns-in-Err-clause-live
 returns-in-Err-clause-live g c =
     let r = c.self.inside in
-    let p : LivePlan = seen_as r.base r.settings r.ranking r.current r.known r.held r.table r.flags r.readers r.commanded in
+    let p : LivePlan = seen_as r.base r.settings r.ranking r.current r.known r.held r.table r.flags r.readers r.commanded r.limits in
     let n = c.args.number in
     let t = c.turn-before in
     let f = c.fill-earlier in

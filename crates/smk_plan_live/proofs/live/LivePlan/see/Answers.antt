@@ -10,7 +10,7 @@ use Rattle.smk_plan_live.proofs.live.LivePlan.see.Goals as goal
 pub settle-requires : goal.settle-requires
 settle-requires c =
     let r = c.self.inside in
-    let p : LivePlan = seen_as r.base r.settings r.ranking r.current r.known r.held r.table r.flags r.readers r.commanded in
+    let p : LivePlan = seen_as r.base r.settings r.ranking r.current r.known r.held r.table r.flags r.readers r.commanded r.limits in
     let l = c.args.loss in
     let within = subst (λ (q : LivePlan). l.number < length q.base.jobs.jobs) (sym c.self.view_is) c.requires.within in
     let live = subst IsLive (sym c.self.view_is) c.requires.live in
@@ -28,7 +28,7 @@ settle-requires c =
 pub returns-in-Err-clause-err : goal.returns-in-Err-clause-err
 returns-in-Err-clause-err c =
     let r = c.self.inside in
-    let p : LivePlan = seen_as r.base r.settings r.ranking r.current r.known r.held r.table r.flags r.readers r.commanded in
+    let p : LivePlan = seen_as r.base r.settings r.ranking r.current r.known r.held r.table r.flags r.readers r.commanded r.limits in
     let n = c.args.loss.number in
     let s = c.sight_outputs-saw in
     let same = c.self-2.view_is ∙ c.in-Err.ensures.err in
@@ -40,7 +40,7 @@ returns-in-Err-clause-err c =
 pub returns-in-Err-clause-live : goal.returns-in-Err-clause-live
 returns-in-Err-clause-live c =
     let r = c.self.inside in
-    let p : LivePlan = seen_as r.base r.settings r.ranking r.current r.known r.held r.table r.flags r.readers r.commanded in
+    let p : LivePlan = seen_as r.base r.settings r.ranking r.current r.known r.held r.table r.flags r.readers r.commanded r.limits in
     let n = c.args.loss.number in
     let s = c.sight_outputs-saw in
     let same = c.self-2.view_is ∙ c.in-Err.ensures.err in

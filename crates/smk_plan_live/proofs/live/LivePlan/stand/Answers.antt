@@ -3,6 +3,7 @@ use Rattle.std.specs.List.{list_all}
 use Rattle.smk_plan_states.proofs.Counts.{states_each}
 use Rattle.smk_plan_live.specs.Carried.{with_seen}
 use Rattle.smk_plan_live.specs.Commands.{has_command}
+use Rattle.smk_plan_live.specs.Limits.{AreLimits}
 use Rattle.smk_plan_live.specs.Kept.{told_by_flags}
 use Rattle.smk_plan_live.specs.Live.{LivePlan, on_base, seen_as}
 use Rattle.smk_plan_live.specs.Lives.{IsLive, IsRefusedNow}
@@ -18,13 +19,13 @@ told_of-requires g c = (
 pub returns-in-Err-clause-err : goal.returns-in-Err-clause-err
 returns-in-Err-clause-err g c =
     let r = c.self.inside in
-    let p : LivePlan = seen_as r.base r.settings r.ranking r.current r.known r.held r.table r.flags r.readers r.commanded in
+    let p : LivePlan = seen_as r.base r.settings r.ranking r.current r.known r.held r.table r.flags r.readers r.commanded r.limits in
     ap (λ s. on_base p (with_seen s p.base)) (c.swap-in-Err.ensures.y_after ∙ c.swap.ensures.x_after) ∙ c.self.view_is
 
 pub returns-in-Err-clause-live : goal.returns-in-Err-clause-live
 returns-in-Err-clause-live g c =
     let r = c.self.inside in
-    let p : LivePlan = seen_as r.base r.settings r.ranking r.current r.known r.held r.table r.flags r.readers r.commanded in
+    let p : LivePlan = seen_as r.base r.settings r.ranking r.current r.known r.held r.table r.flags r.readers r.commanded r.limits in
     coe 1 0 (i. IsLive (on_base p (with_seen ((c.swap-in-Err.ensures.y_after ∙ c.swap.ensures.x_after) i) p.base)))
     (subst IsLive (sym c.self.view_is) c.requires.live)
 
@@ -56,9 +57,11 @@ returns-in-Ok-clause-live g c =
       now = t.now;
       table = t.kept.table;
       flags = λ served. t.kept.flags;
+      made = t.kept.made;
       readers = t.kept.readers sound;
       standing = t.standing;
       ranked = t.ranked;
       named = named;
+      limits = subst (AreLimits c.limits_of-limits.result) c.as_slice-jobs.ensures c.limits_of-limits.ensures;
       commands = λ h. ap (list_all (has_command settings.cores)) (sym c.as_slice-jobs.ensures) ∙ c.are_seen-commanded.ensures h;
     }

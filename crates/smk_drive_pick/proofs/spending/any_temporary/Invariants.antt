@@ -1,7 +1,0 @@
-use Rattle.std.proofs.Common.{◌≡◌, drop}
-use Rattle.std.specs.List.{list_any}
-use Rattle.smk_drive_pick.specs.Spending.{has_temps}
-use Rattle.smk_drive_pick.proofs.spending.any_temporary.Given as goal
-
-abbrev pub invariant-loop-job : goal.invariant-loop-job
-invariant-loop-job l = list_any has_temps l.jobs ≡ list_any has_temps (drop l.job-index l.jobs)
